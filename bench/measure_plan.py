@@ -17,7 +17,7 @@ import plans
 import timing
 from plans import Node, test
 
-LINE = "plan_bench: tk_plan tk_plan_units tk_book tk_events tk_ids serde_json indexmap"
+LINE = "plan_bench: tk_plan_reading tk_plan tk_locks tk_events tk_ids serde_json indexmap"
 
 
 def classes() -> Node:

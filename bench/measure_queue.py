@@ -16,7 +16,7 @@ from typing import Dict, List, Tuple
 import building
 import timing
 
-LINE = "queue_bench: tk_queue tk_record tk_events tk_ids tk_waiting"
+LINE = "queue_bench: tk_queue tk_record_text tk_events tk_ids tk_waiting"
 EVENTS_OF_A_SENDER = 50_000
 
 

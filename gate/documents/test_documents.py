@@ -20,7 +20,7 @@ LIMITS = Limits(
     most_readme_bytes=14_336,
     most_crate_lines=80,
     fewest_crate_readmes=35,
-    heads=("tk_lanes", "tk_ids", "tk_events", "tk_record", "tk_query", "tk_book", "tk_plan", "tk_queue", "tk_engine", "tk_report", "testkit"),
+    heads=("tk_lanes", "tk_ids", "tk_events", "tk_record_text", "tk_query", "tk_locks", "tk_plan_reading", "tk_queue", "tk_engine_scripted", "tk_plan_runs", "testkit"),
     phrases=("want of memory", "refused growth", "so many", "passes on", "beyond the surface", "who wants to look"),
 )
 

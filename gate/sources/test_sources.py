@@ -8,11 +8,11 @@ from rules import Limits, rules_of
 from tree import Tree
 
 HOMES = {
-    "engine": "tk_limits tk_waiting tk_book tk_engine_runs tk_engine_execute tk_engine_events tk_engine_hierarchical",
-    "record": "tk_lanes tk_streams tk_ids tk_events tk_record_columns tk_record",
+    "engine": "tk_base tk_waiting tk_locks tk_engine_runs tk_engine_execute tk_engine_events tk_engine_hierarchical",
+    "record": "tk_lanes tk_streams tk_ids tk_events tk_record tk_record_text",
     "questions": "tk_query_conditions tk_query_lifecycle tk_query tk_query_nearest tk_explanations testkit_questions",
-    "plans": "tk_plan_units tk_plan_nodes tk_plan_members tk_plan_json tk_plan tk_engine tk_report_text tk_report",
-    "queue": "tk_queue_core tk_queue_session tk_queue_replay tk_queue",
+    "plans": "tk_plan tk_plan_code tk_plan_json_members tk_plan_json tk_plan_reading tk_engine_scripted tk_report_text tk_plan_runs",
+    "queue": "tk_queue_core tk_queue_session tk_queue_replay",
 }
 """The modules of `engine_testkit`, and the libraries whose names each gives out."""
 

@@ -1,2 +1,2 @@
-pub mod Growing
-pub mod Emitting
+pub mod SinkGrowth
+pub mod Emissions

@@ -5,7 +5,7 @@ pub use Rattle.tk_events.specs.declared.events.Entry
 pub use Rattle.tk_events.specs.declared.kinds.Kind
 pub use Rattle.tk_events.specs.declared.statuses.Status
 pub use Rattle.tk_events.specs.declared.payloads.Payload
-pub use Rattle.tk_book.specs.NeedView
+pub use Rattle.tk_locks.specs.NeedView
 pub use Rattle.tk_queue_session.specs.Senders
 pub use Rattle.tk_queue_session.specs.Registering
 pub use Rattle.tk_queue_session.specs.Tokens

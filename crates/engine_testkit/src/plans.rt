@@ -1,10 +1,14 @@
 //! Plans, the engine of a plan, and reports of runs.
+pub use tk_engine_scripted::Scripted;
 pub use tk_plan::{
-    Act, Entries, ExecutionMode, Files, Lock, LockMode, Locks, MAX_KEYS, MAX_LEVELS, Node,
-    NumberedNode, Plan, PlanFault, PlanLock, PlanNode, Step, UnitTree, build_plan, count_events,
-    read_plan,
+    Act, Entries, Files, Lock, Locks, MAX_KEYS, Node, NumberedNode, Plan, Step, UnitTree,
+    count_events,
 };
-pub use tk_report::{
-    DEFAULT_CAPACITY, PlanRun, Report, ReportFault, ReportFaultText, Scripted, plan_report,
-    run_plan, write_report, write_report_of,
+pub use tk_plan_code::{ExecutionMode, LockMode, PlanLock, PlanNode};
+pub use tk_plan_json::MAX_LEVELS;
+pub use tk_plan_json_members::PlanFault;
+pub use tk_plan_reading::{build_plan, read_plan};
+pub use tk_plan_runs::{
+    DEFAULT_CAPACITY, PlanRun, ReportFault, ReportFaultText, plan_report, run_plan, write_report,
 };
+pub use tk_report_text::{Report, write_report_of};

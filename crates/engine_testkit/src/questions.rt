@@ -9,9 +9,10 @@ pub use tk_explanations::{
     explain_lifecycle, explain_list, explain_loosely,
 };
 pub use tk_query::{
-    CondFault, Condition, ENDING_NAME, Ending, Exact, Exclusive, Execution, ExecutionIter,
-    Executions, InOrder, Lifecycle, LifecycleRule, Loose, MAX_DEPTH, exclusive, executions, find,
-    first_fit, holds, holds_at, lifecycle, match_exactly, match_in_order, match_loosely,
-    read_condition, select, write_condition,
+    ENDING_NAME, Ending, Exact, Exclusive, Execution, ExecutionIter, Executions, InOrder, Loose,
+    exclusive, executions, find, first_fit, holds, holds_at, match_exactly, match_in_order,
+    match_loosely, select,
 };
+pub use tk_query_conditions::{CondFault, Condition, MAX_DEPTH, read_condition, write_condition};
+pub use tk_query_lifecycle::{Lifecycle, LifecycleRule, lifecycle};
 pub use tk_query_nearest::{MAX_DISTANCE, MAX_NEAREST, Nearest, distance, lacking_text, nearest};

@@ -12,14 +12,14 @@ pub use tk_lanes::{
     not_into, ones, or_into,
 };
 pub use tk_record::{
+    AppendFault, ColumnTest, EntryView, EntryViews, Events, Expected, MAX_ENTRIES, Mismatch,
+    Record, STATISTICS, Selection, Statistics,
+};
+pub use tk_record_text::{
     Fields, LineFault, MAX_TEXT, NodesFault, ReadFault, Version, WriteFault, add_statistics,
     cut_at, cut_header, cut_line, push_tail, push_text, put_event, put_text, read_event_line,
     read_node_line, read_nodes, read_number, read_record, read_u8, read_u32, read_u64,
     write_event_list, write_field, write_record, write_tail,
-};
-pub use tk_record_columns::{
-    AppendFault, ColumnTest, EntryView, EntryViews, Events, Expected, MAX_ENTRIES, Mismatch,
-    Record, STATISTICS, Selection, Statistics,
 };
 pub use tk_streams::{
     Broken, ByteSource, ByteTarget, CHUNK, LoadFault, MAX_DIGITS, Piece, SHORT_LINE, ShortLine,

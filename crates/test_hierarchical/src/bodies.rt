@@ -7,14 +7,13 @@ use std::sync::Wait;
 use std::sync::atomic::{AtomicU64, Ordering};
 use std::thread::Threads;
 use test_support::is_written_as;
-use tk_engine::{Results, RunFault, Sink, UnitFault};
-use tk_engine_hierarchical::{
-    Body, Hierarchical, OUT_OF_ORDER, Outcome, Reporter, TWICE, Tests, UnitRun,
-};
+use tk_engine_execute::{OUT_OF_ORDER, Results, RunFault, Sink, TWICE, UnitFault};
+use tk_engine_hierarchical::{Body, Hierarchical, Reporter, Tests};
+use tk_engine_unit_events::{Outcome, UnitRun};
 use tk_ids::Text;
-use tk_plan::{ExecutionMode, LockMode, PlanNode};
-use tk_query::Lifecycle;
-use tk_record_columns::Statistics;
+use tk_plan_code::{ExecutionMode, LockMode, PlanNode};
+use tk_query_lifecycle::Lifecycle;
+use tk_record::Statistics;
 
 // A body that publishes a file and fails.
 struct Failing;

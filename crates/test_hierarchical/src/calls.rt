@@ -2,11 +2,13 @@
 use std::alloc::Global;
 use std::sync::Wait;
 use std::thread::Threads;
-use tk_engine::{Engine, Results, RunFault, Sink, UnitFault, execute};
-use tk_engine_hierarchical::{Body, Hierarchical, Reporter, Tests, UnitRun};
+use tk_engine_execute::{Engine, Results, RunFault, Sink, UnitFault, execute};
+use tk_engine_hierarchical::{Body, Hierarchical, Reporter, Tests};
+use tk_engine_unit_events::UnitRun;
 use tk_events::Pairs;
 use tk_ids::{Segment, Text};
-use tk_plan::{PlanNode, build_plan};
+use tk_plan_code::PlanNode;
+use tk_plan_reading::build_plan;
 
 /// The engine of the plan with this root, and of these tests; none for want of memory.
 pub(crate) fn engine_of<T: Tests + Drop>(

@@ -4,10 +4,11 @@ use std::alloc::Global;
 use std::sync::Wait;
 use std::thread::Threads;
 use test_support::is_written_as;
-use tk_engine::{Sink, UnitFault};
-use tk_engine_hierarchical::{Body, Hierarchical, Outcome, Reporter, Tests, UnitRun};
+use tk_engine_execute::{Sink, UnitFault};
+use tk_engine_hierarchical::{Body, Hierarchical, Reporter, Tests};
+use tk_engine_unit_events::{Outcome, UnitRun};
 use tk_ids::Text;
-use tk_plan::{ExecutionMode, PlanNode};
+use tk_plan_code::{ExecutionMode, PlanNode};
 
 // A body that succeeds where no static descriptor runs.
 struct Nameless;

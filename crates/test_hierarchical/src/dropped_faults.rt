@@ -3,9 +3,10 @@ use crate::calls::{engine_of, fault_of, report, run_container, run_test};
 use std::alloc::Global;
 use std::sync::Wait;
 use std::thread::Threads;
-use tk_engine::{Sink, UnitFault};
-use tk_engine_hierarchical::{Body, Outcome, Reporter, Tests, UnitRun};
-use tk_plan::PlanNode;
+use tk_engine_execute::{Sink, UnitFault};
+use tk_engine_hierarchical::{Body, Reporter, Tests};
+use tk_engine_unit_events::{Outcome, UnitRun};
+use tk_plan_code::PlanNode;
 
 // The body of a dynamic test.
 #[derive(Clone, Copy)]

@@ -5,9 +5,9 @@ use crate::planned::Silent;
 use std::alloc::{AllocError, Global};
 use std::sync::Wait;
 use std::thread::Threads;
-use tk_plan::PlanNode;
-use tk_query::Lifecycle;
-use tk_record_columns::Statistics;
+use tk_plan_code::PlanNode;
+use tk_query_lifecycle::Lifecycle;
+use tk_record::Statistics;
 
 // The statistics of a run of the plan of this root by one worker, where it keeps the lifecycle.
 fn statistics<R: Threads + Wait + Sync>(

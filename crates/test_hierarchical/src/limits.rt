@@ -3,11 +3,12 @@ use crate::calls::{engine_of, fault_of, publish_file, report, run_container, ski
 use std::alloc::{AllocError, Global};
 use std::sync::Wait;
 use std::thread::Threads;
-use tk_engine::{RunFault, Sink, SinkFault, UnitFault};
-use tk_engine_hierarchical::{Body, Outcome, Reporter, Tests, UnitRun};
+use tk_engine_execute::{RunFault, Sink, SinkFault, UnitFault};
+use tk_engine_hierarchical::{Body, Reporter, Tests};
+use tk_engine_unit_events::{Outcome, UnitRun};
 use tk_ids::IdFault;
-use tk_plan::{ExecutionMode, PlanNode};
-use tk_queue::{RegisterFault, SendFault};
+use tk_plan_code::{ExecutionMode, PlanNode};
+use tk_queue_session::{RegisterFault, SendFault};
 
 // What the test of a plan does, whose id is `[c:c]/[t:t]` or, below a chain, has 60 segments.
 #[derive(Clone, Copy)]

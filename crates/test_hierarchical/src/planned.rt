@@ -5,10 +5,13 @@ use std::alloc::{AllocError, Global};
 use std::sync::Wait;
 use std::thread::Threads;
 use test_support::{is_written_as, record_of};
-use tk_engine::{Results, Scripted, Sink, UnitFault};
-use tk_engine_hierarchical::{Outcome, Reporter, Tests, UnitRun};
+use tk_engine_execute::{Results, Sink, UnitFault};
+use tk_engine_hierarchical::{Reporter, Tests};
+use tk_engine_scripted::Scripted;
+use tk_engine_unit_events::{Outcome, UnitRun};
 use tk_events::Status;
-use tk_plan::{ExecutionMode, PlanNode, build_plan};
+use tk_plan_code::{ExecutionMode, PlanNode};
+use tk_plan_reading::build_plan;
 use tk_report_text::write_report_of;
 use tk_streams::ByteTarget;
 

@@ -6,10 +6,12 @@ use std::alloc::Global;
 use std::sync::Wait;
 use std::thread::Threads;
 use test_support::{Ending, is_done, refused_if};
-use tk_engine::{RunFault, Sink, SinkFault, UnitFault, execute};
-use tk_engine_hierarchical::{Hierarchical, Outcome, Reporter, Tests, UnitRun};
-use tk_plan::{PlanNode, build_plan};
-use tk_queue::RegisterFault;
+use tk_engine_execute::{RunFault, Sink, SinkFault, UnitFault, execute};
+use tk_engine_hierarchical::{Hierarchical, Reporter, Tests};
+use tk_engine_unit_events::{Outcome, UnitRun};
+use tk_plan_code::PlanNode;
+use tk_plan_reading::build_plan;
+use tk_queue_session::RegisterFault;
 
 fn is_unit_refused(fault: &UnitFault) -> bool {
     match fault {

@@ -5,9 +5,10 @@ use std::alloc::Global;
 use std::sync::Wait;
 use std::sync::atomic::{AtomicU64, Ordering};
 use std::thread::Threads;
-use tk_engine::{RunFault, Sink, UnitFault};
-use tk_engine_hierarchical::{Outcome, Reporter, Tests, UnitRun, run_tests};
-use tk_plan::PlanNode;
+use tk_engine_execute::{RunFault, Sink, UnitFault};
+use tk_engine_hierarchical::{Reporter, Tests, run_tests};
+use tk_engine_unit_events::{Outcome, UnitRun};
+use tk_plan_code::PlanNode;
 
 // Whether a run by one worker has the record of the sample.
 fn has_record<R: Threads + Wait + Sync>(rt: &R, alloc: Global) -> Option<bool> {

@@ -3,7 +3,10 @@ use crate::shown_plans::shown;
 use std::alloc::{AllocError, Global};
 use tk_events::Status;
 use tk_ids::{DType, UniqueId};
-use tk_plan::{ExecutionMode, LockMode, Plan, PlanFault, PlanNode, build_plan, read_plan};
+use tk_plan::Plan;
+use tk_plan_code::{ExecutionMode, LockMode, PlanNode};
+use tk_plan_json_members::PlanFault;
+use tk_plan_reading::{build_plan, read_plan};
 
 // A class that may run beside its siblings.
 fn class(alloc: Global, name: &'static str) -> PlanNode<'static> {

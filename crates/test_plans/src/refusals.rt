@@ -2,7 +2,8 @@
 //! refused is asked once more, and then it has to succeed.
 use crate::plans::demo;
 use std::alloc::Global;
-use tk_plan::{PlanFault, build_plan};
+use tk_plan_json_members::PlanFault;
+use tk_plan_reading::build_plan;
 
 // Whether the plan was built, where memory was not refused.
 fn built(alloc: Global) -> Result<bool, PlanFault> {

@@ -1,8 +1,8 @@
 //! Plans as texts, so that they can be compared.
 ghost use Rattle.std.specs.Prelude.{◌<◌, length};
-ghost use Rattle.tk_plan_units.specs.Cutting.{units_of};
-ghost use Rattle.tk_plan_units.specs.Known.{IsKnown};
-ghost use Rattle.tk_plan_units.specs.Trees.{forest};
+ghost use Rattle.tk_plan.specs.Cutting.{units_of};
+ghost use Rattle.tk_plan.specs.Known.{IsKnown};
+ghost use Rattle.tk_plan.specs.Trees.{forest};
 
 use std::alloc::{AllocError, Global};
 use tk_events::Event;

@@ -1,6 +1,6 @@
 //! Conditions under JUnit's names, and texts of conditions that are written.
 use std::alloc::{AllocError, Global};
-use tk_query::{Condition, read_condition, write_condition};
+use tk_query_conditions::{Condition, read_condition, write_condition};
 
 fn is_written_as(alloc: Global, condition: &Condition, text: &str) -> bool {
     match write_condition(alloc, condition) {

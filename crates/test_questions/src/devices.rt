@@ -2,7 +2,8 @@
 use std::alloc::{AllocError, Global};
 use test_support::{OneByteSource, OneByteTarget, is_cut, record_of, two_tests, two_tests_report};
 use testkit_questions::{AskFault, ask};
-use tk_record::{ReadFault, Record};
+use tk_record::Record;
+use tk_record_text::ReadFault;
 use tk_report_text::write_report_of;
 use tk_streams::{ByteTarget, Source};
 

@@ -2,7 +2,7 @@
 use std::alloc::{AllocError, Global};
 use test_support::{record_of, two_tests};
 use tk_query::{Executions, executions};
-use tk_record_columns::{Events, Record};
+use tk_record::{Events, Record};
 
 fn is_written_as(alloc: Global, list: &Executions, want: &str) -> bool {
     match format!(in alloc; "{list:?}") {

@@ -2,9 +2,10 @@
 use std::alloc::Global;
 use test_support::{OneByteTarget, record_of, two_tests};
 use tk_explanations::{ExplainFault, explain_exclusive, explain_executions, explain_list};
-use tk_query::{Condition, find, holds, read_condition, select};
+use tk_query::{find, holds, select};
+use tk_query_conditions::{Condition, read_condition};
 use tk_query_nearest::{distance, lacking_text, nearest};
-use tk_record_columns::{Events, Record};
+use tk_record::{Events, Record};
 use tk_streams::{ByteTarget, Target};
 
 fn failures() -> &'static [u8] {

@@ -2,9 +2,10 @@
 use std::alloc::Global;
 use test_support::{are_shown, are_shown_as, is_debugged_as};
 use testkit_questions::AskFault;
-use tk_query::{CondFault, Ending, Loose};
-use tk_record::ReadFault;
-use tk_record_columns::{Mismatch, Selection};
+use tk_query::{Ending, Loose};
+use tk_query_conditions::CondFault;
+use tk_record::{Mismatch, Selection};
+use tk_record_text::ReadFault;
 
 // Whether the faults of a question's words have their texts.
 fn show_word_faults(alloc: Global) -> bool {

@@ -1,10 +1,9 @@
 //! Records of many entries, and matches of many conditions.
 use std::alloc::{AllocError, Global};
 use test_support::starts;
-use tk_query::{
-    Condition, Exact, InOrder, Loose, match_exactly, match_in_order, match_loosely, select,
-};
-use tk_record_columns::{Events, Record};
+use tk_query::{Exact, InOrder, Loose, match_exactly, match_in_order, match_loosely, select};
+use tk_query_conditions::Condition;
+use tk_record::{Events, Record};
 
 fn is_of_length(events: &Result<Events<'_>, AllocError>, count: usize) -> bool {
     matches!(events, Ok(events) if events.count() == count)

@@ -1,8 +1,9 @@
 //! Matches of a worker's events.
 use std::alloc::{AllocError, Global};
 use test_support::{record_of, two_tests};
-use tk_query::{Condition, Exact, InOrder, Loose, match_exactly, match_in_order, match_loosely};
-use tk_record_columns::{Events, Record};
+use tk_query::{Exact, InOrder, Loose, match_exactly, match_in_order, match_loosely};
+use tk_query_conditions::Condition;
+use tk_record::{Events, Record};
 
 // Whether conditions match the events exactly, loosely and in order at the positions 1 and 2.
 fn match_all(alloc: Global, events: &Events<'_>, list: &[Condition]) -> bool {

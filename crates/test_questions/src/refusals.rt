@@ -3,10 +3,9 @@
 use std::alloc::Global;
 use test_support::{again_if_refused, is_written, read_again, two_tests_report};
 use tk_explanations::{ExplainFault, explain_exclusive};
-use tk_query::{
-    Condition, Exclusive, InOrder, exclusive, executions, match_in_order, read_condition, select,
-};
-use tk_record_columns::{Events, Record};
+use tk_query::{Exclusive, InOrder, exclusive, executions, match_in_order, select};
+use tk_query_conditions::{Condition, read_condition};
+use tk_record::{Events, Record};
 use tk_report_text::write_report_of;
 use tk_streams::{ByteTarget, Target};
 

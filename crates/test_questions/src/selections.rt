@@ -1,9 +1,10 @@
 //! Selections of events.
 use std::alloc::{AllocError, Global};
 use test_support::{record_of, two_tests};
-use tk_query::{read_condition, select};
-use tk_record::{read_u8, read_u32};
-use tk_record_columns::{Events, Record, Selection};
+use tk_query::select;
+use tk_query_conditions::read_condition;
+use tk_record::{Events, Record, Selection};
+use tk_record_text::{read_u8, read_u32};
 
 // The text of a record with events of each kind and each status.
 fn each_kind() -> &'static [u8] {

@@ -1,6 +1,6 @@
 //! What appending answers, without the entry that may come back.
 use tk_events::Entry;
-use tk_record_columns::{AppendFault, Record};
+use tk_record::{AppendFault, Record};
 
 /// What appending an entry answered.
 #[derive(Clone, Copy)]

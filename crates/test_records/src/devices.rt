@@ -2,7 +2,8 @@
 //! turn.
 use std::alloc::Global;
 use test_support::{OneByteTarget, is_cut, record_of, two_tests};
-use tk_record::{Record, write_record};
+use tk_record::Record;
+use tk_record_text::write_record;
 
 fn writing_breaks(alloc: Global, record: &Record, bytes: usize) -> bool {
     let mut target = OneByteTarget::new(alloc, bytes);

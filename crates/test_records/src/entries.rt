@@ -3,8 +3,8 @@ use crate::appending::{Answer, append};
 use std::alloc::Global;
 use test_support::record_of;
 use tk_events::{Entry, Event};
-use tk_record::{Version, read_event_line};
-use tk_record_columns::Record;
+use tk_record::Record;
+use tk_record_text::{Version, read_event_line};
 
 // The text of a record of one node and no entry.
 fn one_container() -> &'static [u8] {

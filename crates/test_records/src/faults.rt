@@ -3,8 +3,8 @@ use std::alloc::{AllocError, Global};
 use test_support::{are_shown, are_shown_as, is_debugged_as, is_shown, start};
 use tk_events::{Entry, Kind, Pairs, Status};
 use tk_ids::{IdFault, Segment, TableFault, Text, UniqueId};
-use tk_record::{LineFault, NodesFault, ReadFault, WriteFault};
-use tk_record_columns::AppendFault;
+use tk_record::AppendFault;
+use tk_record_text::{LineFault, NodesFault, ReadFault, WriteFault};
 use tk_streams::{Broken, LoadFault};
 
 fn show_id_faults(alloc: Global) -> bool {

@@ -1,7 +1,8 @@
 //! Fields of a line, numbers, and long tails.
 use std::alloc::{AllocError, Global};
 use test_support::record_of;
-use tk_record::{Record, read_u32, write_field, write_tail};
+use tk_record::Record;
+use tk_record_text::{read_u32, write_field, write_tail};
 
 // How many bytes the tail of the first entry has.
 fn bytes_of_first_tail(alloc: Global, record: &Record) -> Option<usize> {

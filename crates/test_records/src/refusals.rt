@@ -5,8 +5,8 @@ use std::alloc::Global;
 use test_support::{again_if_refused, is_written, read_again, start, two_tests};
 use tk_events::Entry;
 use tk_ids::Text;
-use tk_record::{write_record, write_tail};
-use tk_record_columns::Record;
+use tk_record::Record;
+use tk_record_text::{write_record, write_tail};
 use tk_streams::ByteTarget;
 
 // Whether the record of two tests is written.

@@ -6,7 +6,7 @@ use std::sync::Wait;
 use std::sync::atomic::{AtomicU64, Ordering};
 use std::thread;
 use std::thread::Threads;
-use tk_book::{Book, BookSeat, Busy, Need};
+use tk_locks::{Book, BookSeat, Busy, Need};
 
 const WORKERS: usize = 15;
 

@@ -10,10 +10,10 @@ use std::sync::atomic::{AtomicU64, Ordering};
 use std::sync::{Arc, Wait};
 use std::thread;
 use test_support::start;
-use tk_book::{BookSeat, Need};
 use tk_engine_execute::{Engine, Sink, UnitFault};
 use tk_events::{Event, Kind, Payload, Status};
 use tk_ids::{DType, Segment, Table};
+use tk_locks::{BookSeat, Need};
 
 /// What a unit does next.
 #[derive(Clone, Copy)]
@@ -255,7 +255,7 @@ fn finish(key: u32) -> Event {
     }
 }
 
-#[tactic(auto, using(tk_engine_execute::proofs::Growing::grew_same, tk_engine_execute::proofs::Growing::grew_one))]
+#[tactic(auto, using(tk_engine_execute::proofs::SinkGrowth::grew_same, tk_engine_execute::proofs::SinkGrowth::grew_one))]
 fn emit<R: Wait, S: Sink>(rt: &R, sink: &mut S, event: Event) -> Result<(), UnitFault>
     ensures { Grew (S.view sink.old) (S.view sink.new) }
 {
@@ -264,7 +264,7 @@ fn emit<R: Wait, S: Sink>(rt: &R, sink: &mut S, event: Event) -> Result<(), Unit
 }
 
 // Fails with the number of the sink's worker, as the key of what it registers says, and with the unit's.
-#[tactic(auto, using(tk_engine_execute::proofs::Growing::grew_same, tk_engine_execute::proofs::Growing::grew_registered))]
+#[tactic(auto, using(tk_engine_execute::proofs::SinkGrowth::grew_same, tk_engine_execute::proofs::SinkGrowth::grew_registered))]
 fn fail_as_worker<R: Wait, S: Sink>(
     rt: &R,
     segment: &Segment,
@@ -282,7 +282,7 @@ fn fail_as_worker<R: Wait, S: Sink>(
     }
 }
 
-#[tactic(auto, using(tk_engine_execute::proofs::Growing::grew_refl))]
+#[tactic(auto, using(tk_engine_execute::proofs::SinkGrowth::grew_refl))]
 fn play_one<R: Wait, S: Sink>(
     rt: &R,
     engine: &StepEngine,
@@ -305,7 +305,7 @@ fn play_one<R: Wait, S: Sink>(
     }
 }
 
-#[tactic(auto, using(tk_engine_execute::proofs::Growing::grew_refl, tk_engine_execute::proofs::Growing::grew_trans))]
+#[tactic(auto, using(tk_engine_execute::proofs::SinkGrowth::grew_refl, tk_engine_execute::proofs::SinkGrowth::grew_trans))]
 fn play<R: Wait, S: Sink>(
     rt: &R,
     engine: &StepEngine,

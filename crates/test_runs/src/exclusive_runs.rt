@@ -4,9 +4,11 @@ use std::alloc::{AllocError, Global};
 use std::sync::Wait;
 use std::thread::Threads;
 use test_support::demo_plan;
-use tk_book::Need;
-use tk_query::{Exclusive, exclusive, read_condition};
-use tk_report::{Results, execute, run_plan};
+use tk_engine_execute::{Results, execute};
+use tk_locks::Need;
+use tk_plan_runs::run_plan;
+use tk_query::{Exclusive, exclusive};
+use tk_query_conditions::read_condition;
 
 // What `exclusive` answers of a run; none for want of memory.
 fn answer_of(alloc: Global, results: &Results, writers: &str, readers: &str) -> Option<Exclusive> {

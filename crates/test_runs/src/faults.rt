@@ -3,9 +3,9 @@ use std::alloc::Global;
 use test_support::{are_shown, are_shown_as, start};
 use tk_engine_execute::{RunFault, SinkFault, UnitFault};
 use tk_ids::{IdFault, TableFault, Text};
-use tk_plan::PlanFault;
-use tk_queue::{RegisterFault, SendFault};
-use tk_report::{DEFAULT_CAPACITY, ReportFault};
+use tk_plan_json_members::PlanFault;
+use tk_plan_runs::{DEFAULT_CAPACITY, ReportFault};
+use tk_queue_session::{RegisterFault, SendFault};
 
 // Whether the faults of a plan have the texts of their lines.
 fn show_plan_faults(alloc: Global) -> bool {

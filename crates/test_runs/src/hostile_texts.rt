@@ -5,10 +5,13 @@ use crate::hostile_samples::{
 use crate::random_numbers::Numbers;
 use std::alloc::{AllocError, Global};
 use tk_ids::{IdFault, UniqueId};
-use tk_plan::{Plan, PlanFault, read_plan};
+use tk_plan::Plan;
+use tk_plan_json_members::PlanFault;
+use tk_plan_reading::read_plan;
 use tk_query_conditions::{CondFault, Condition, read_condition, write_condition};
 use tk_queue_replay::{ReplayFault, replay_text};
-use tk_record::{ReadFault, Record, read_record, write_record};
+use tk_record::Record;
+use tk_record_text::{ReadFault, read_record, write_record};
 use tk_streams::{ByteSource, ByteTarget};
 
 /// How many texts a reader gets of each sample, of which half are random and half are edited.

@@ -1,12 +1,13 @@
 //! How plans are cut, and what their units do.
 ghost use Rattle.std.specs.Prelude.{All, ◌<◌, length};
-ghost use Rattle.tk_plan_units.specs.Known.{IsKnown};
+ghost use Rattle.tk_plan.specs.Known.{IsKnown};
 
 use std::alloc::{AllocError, Global};
 use test_support::demo_plan;
 use tk_events::{Event, Status};
 use tk_ids::Text;
-use tk_plan::{Act, Plan, Step, read_plan};
+use tk_plan::{Act, Plan, Step};
+use tk_plan_reading::read_plan;
 
 // A root with one child, which runs in its thread.
 fn same_thread() -> &'static [u8] {

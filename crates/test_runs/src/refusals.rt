@@ -5,9 +5,11 @@ use std::sync::Wait;
 use std::thread::Threads;
 use test_support::{Ending, demo_plan, demo_report, done_if, is_done, refused_if};
 use tk_engine_execute::{RunFault, SinkFault, UnitFault};
-use tk_plan::{Plan, PlanFault, read_plan};
-use tk_queue::RegisterFault;
-use tk_report::{ReportFault, plan_report};
+use tk_plan::Plan;
+use tk_plan_json_members::PlanFault;
+use tk_plan_reading::read_plan;
+use tk_plan_runs::{ReportFault, plan_report};
+use tk_queue_session::RegisterFault;
 use tk_streams::{ByteTarget, Target};
 
 fn of_reading(answer: &Result<Plan, PlanFault>) -> Ending {

@@ -3,11 +3,11 @@ use std::alloc::{AllocError, Global};
 use std::sync::Wait;
 use std::thread::Threads;
 use test_support::{OneByteTarget, demo_plan, demo_report};
-use tk_plan::read_plan;
-use tk_query::Lifecycle;
-use tk_report::{
-    DEFAULT_CAPACITY, ReportFault, Results, Scripted, execute, plan_report, run_plan, write_report,
-};
+use tk_engine_execute::{Results, execute};
+use tk_engine_scripted::Scripted;
+use tk_plan_reading::read_plan;
+use tk_plan_runs::{DEFAULT_CAPACITY, ReportFault, plan_report, run_plan, write_report};
+use tk_query_lifecycle::Lifecycle;
 
 // What three workers record of the demo plan.
 fn ran<R: Threads + Wait + Sync>(rt: &R, alloc: Global) -> Option<Results> {

@@ -3,8 +3,8 @@ use crate::engines::{Asked, Seen, UnitStep, Units, engine};
 use std::alloc::Global;
 use std::sync::Wait;
 use std::thread::Threads;
-use tk_book::Need;
 use tk_engine_execute::{Results, RunFault, UnitFault, execute};
+use tk_locks::Need;
 
 // What a run recorded: how many entries, the stamps of the first four, and how many events the
 // closed session says that worker 1 and that all workers emitted.

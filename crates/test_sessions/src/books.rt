@@ -4,7 +4,7 @@ ghost use Rattle.std.specs.Prelude.{◌≡◌, All};
 use std::alloc::Global;
 use std::sync::Wait;
 use std::test::Fail;
-use tk_book::{Book, BookFault, BookSeat, Busy, Holdings, Need};
+use tk_locks::{Book, BookFault, BookSeat, Busy, Holdings, Need};
 
 // A seat beside its book.
 #[derive(Drop)]

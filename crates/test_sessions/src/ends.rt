@@ -6,7 +6,8 @@ use std::sync::Wait;
 use test_support::one_node;
 use tk_events::{Event, Kind};
 use tk_ids::DType;
-use tk_queue::{Ended, Item, Receiver, SendFault, Sender, open};
+use tk_queue_core::Item;
+use tk_queue_session::{Ended, Receiver, SendFault, Sender, open};
 
 /// The sender and the receiver of a session of one worker, if it is opened.
 pub fn one_sender(alloc: Global, capacity: usize) -> Option<(Sender, Receiver)>

@@ -1,10 +1,12 @@
 //! Faults of books, claims, replays and sessions as texts.
 use std::alloc::Global;
 use test_support::{are_shown, are_shown_as, start};
-use tk_book::BookFault;
 use tk_engine_runs::ClaimFault;
 use tk_ids::IdFault;
-use tk_queue::{CoreFault, OpenFault, RegisterFault, ReplayFault, SendFault};
+use tk_locks::BookFault;
+use tk_queue_core::CoreFault;
+use tk_queue_replay::ReplayFault;
+use tk_queue_session::{OpenFault, RegisterFault, SendFault};
 
 fn show_open_faults(alloc: Global) -> bool {
     let faults = [OpenFault::Workers, OpenFault::Capacity, OpenFault::Memory];

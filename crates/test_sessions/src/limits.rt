@@ -7,7 +7,7 @@ use std::sync::Wait;
 use test_support::start;
 use tk_events::Kind;
 use tk_ids::{DType, Segment};
-use tk_queue::{Receiver, RegisterFault, Sender};
+use tk_queue_session::{Receiver, RegisterFault, Sender};
 
 // Whether `count` starts were sent, and each was taken at once.
 fn passes<R: Wait>(rt: &R, sender: &mut Sender, receiver: &mut Receiver, count: u64) -> bool

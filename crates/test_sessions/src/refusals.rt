@@ -8,13 +8,13 @@ use test_support::{
     Ending, again_if_refused, done_if, is_done, one_node, refused_if, small_replay,
     small_replay_taken, start,
 };
-use tk_book::{Book, BookFault, Holdings, Need};
 use tk_engine_runs::{Claim, ClaimFault};
 use tk_events::Kind;
 use tk_ids::{DType, Segment};
-use tk_queue::{
-    Core, CoreFault, OpenFault, Receiver, RegisterFault, ReplayFault, Sender, open, replay_text,
-};
+use tk_locks::{Book, BookFault, Holdings, Need};
+use tk_queue_core::{Core, CoreFault};
+use tk_queue_replay::{ReplayFault, replay_text};
+use tk_queue_session::{OpenFault, Receiver, RegisterFault, Sender, open};
 use tk_streams::{ByteSource, ByteTarget, Target};
 
 // A refused growth of the target breaks it, and what it took is a prefix of the record.

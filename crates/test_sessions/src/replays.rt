@@ -6,7 +6,8 @@ use test_support::{
 };
 use tk_events::{Event, Kind};
 use tk_ids::DType;
-use tk_queue::{Core, CoreFault, Item, ReplayFault, Replayed, Turn, replay, replay_text};
+use tk_queue_core::{Core, CoreFault, Item};
+use tk_queue_replay::{ReplayFault, Replayed, Turn, replay, replay_text};
 use tk_streams::{ByteTarget, Source, Target};
 
 fn is_entry(item: &Item, worker: u8, stamp: u64) -> bool {

@@ -7,7 +7,7 @@ use std::sync::Wait;
 use test_support::start;
 use tk_events::{Event, Kind, Payload, Status};
 use tk_ids::{DType, IdFault, Segment, Text};
-use tk_queue::{CloseFault, CloseReason, Ended, Receiver, RegisterFault, Sender};
+use tk_queue_session::{CloseFault, CloseReason, Ended, Receiver, RegisterFault, Sender};
 
 // Why the session isn't closed yet, with all that comes back.
 fn refusal(receiver: Receiver, ended: Vec<Ended>) -> Option<CloseFault>

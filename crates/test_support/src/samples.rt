@@ -4,8 +4,9 @@ use std::alloc::Global;
 use std::sync::Arc;
 use tk_events::{Entry, Event, Kind, Payload};
 use tk_ids::{DType, Segment, Table};
-use tk_record::{ByteSource, ReadFault, Record, read_record};
-use tk_record_columns::AppendFault;
+use tk_record::{AppendFault, Record};
+use tk_record_text::{ReadFault, read_record};
+use tk_streams::ByteSource;
 
 /// A start of the descriptor with this key.
 pub fn start(key: u32, stamp: u64) -> Event {

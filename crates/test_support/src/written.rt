@@ -1,7 +1,8 @@
 //! What a writer answered, beside what its target took.
 use crate::devices::OneByteTarget;
 use std::alloc::Global;
-use tk_record::{Record, WriteFault, write_record};
+use tk_record::Record;
+use tk_record_text::{WriteFault, write_record};
 use tk_streams::{ByteTarget, Target};
 
 /// Returns whether a writer wrote this text; none where memory was refused to it, or to the target,

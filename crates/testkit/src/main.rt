@@ -8,7 +8,7 @@ use std::thread::Threads;
 use std::{env, io};
 use testkit_command_line::collect_words;
 use testkit_program::{Fault, FaultLine, exit_code, perform};
-use tk_record::{StdSource, StdTarget};
+use tk_streams::{StdSource, StdTarget};
 
 /// Does what the words ask for, from standard input to standard output.
 fn run<R: Threads + Wait + Sync>(host: &HostRuntime, rt: &R) -> Result<bool, Fault> {

@@ -33,7 +33,7 @@ use Rattle.clap.specs.Words.{
   with_subcommand,
 }
 use Rattle.clap.specs.declared.builder.action.ArgAction.TheVariants.{Set}
-use Rattle.tk_record.specs.Reading.{number_of}
+use Rattle.tk_record_text.specs.Reading.{number_of}
 use Rattle.testkit_command_line.specs.declared.jobs.Job.{Job}
 use Rattle.testkit_command_line.specs.declared.jobs.Job.TheVariants as jobs
 use Rattle.testkit_command_line.specs.declared.faults.CommandLineFault.{CommandLineFault}

@@ -11,7 +11,7 @@ use crate::jobs::Job;
 use clap::error::ErrorKind;
 use clap::{Arg, ArgAction, ArgMatches, Command, Error};
 use std::alloc::Global;
-use tk_record::read_u8;
+use tk_record_text::read_u8;
 
 fn run_command<'w>(alloc: Global) -> Result<Command<'w>, Error>
     ensures app { IfOk result (λ command. app_of command ≡ run_command) }

@@ -2,9 +2,9 @@
 use Rattle.std.proofs.Common.{◌≡◌, ◌≢◌, ℕ, ◌<◌, Option, None, List, [], ◌∷◌, replicate, get_or, set, length, length-set, get_or-set_same, get_or-set_other, sym, refl, ap, ◌∙◌, subst, subst₂, ⊎_elim, arith}
 use Rattle.std.proofs.lemmas.Bool.{cases_eq}
 use Rattle.std.proofs.lemmas.List.Elements.{All-replicate}
-use Rattle.tk_book.specs.NeedView.{NeedView}
-use Rattle.tk_book.specs.Holdings.{IsCompatible, AreCompatible, Grants, Releases}
-use Rattle.tk_book.proofs.Agreeing.{agree_sym, set_compatible}
+use Rattle.tk_locks.specs.NeedView.{NeedView}
+use Rattle.tk_locks.specs.Holdings.{IsCompatible, AreCompatible, Grants, Releases}
+use Rattle.tk_locks.proofs.LaneConflicts.{agree_sym, set_compatible}
 use Rattle.testkit_headline.specs.Schedules.{IsLockSchedule}
 
 none_first : (a b : Option NeedView) → a ≡ None → IsCompatible a b

@@ -3,17 +3,17 @@ use Rattle.std.proofs.Common.{◌≡◌, ◌↔◌, ℕ, zero, suc, ◌+◌, Boo
 use Rattle.std.specs.Io.KnownBytes.{Appends}
 use Rattle.std.proofs.lemmas.List.Elements.{All-from_recursion}
 use Rattle.tk_events.specs.declared.events.Entry.{Entry}
-use Rattle.tk_record_columns.specs.Recorded.{Recorded}
-use Rattle.tk_record_columns.specs.Statistics.{statistics_of, statistic_rows}
-use Rattle.tk_record_columns.specs.Selections.{PositionedEntry, positioned_from, Selected, all_of, events_of, filtered_by, selects}
-use Rattle.tk_record_columns.specs.declared.selections.Selection.{Selection}
+use Rattle.tk_record.specs.Recorded.{Recorded}
+use Rattle.tk_record.specs.Statistics.{statistics_of, statistic_rows}
+use Rattle.tk_record.specs.Selections.{PositionedEntry, positioned_from, Selected, all_of, events_of, filtered_by, selects}
+use Rattle.tk_record.specs.declared.selections.Selection.{Selection}
 use Rattle.tk_query_conditions.specs.declared.conditions.Condition.{Condition}
 use Rattle.tk_query.specs.declared.answers.InOrder.{InOrder}
 use Rattle.tk_query.specs.declared.answers.InOrder.TheVariants.{Yes, No}
 use Rattle.tk_query.specs.Asked.{fits}
 use Rattle.tk_query.specs.InOrder.{HoldInTurn, CanHoldInTurn}
 use Rattle.tk_query.specs.Matches.{IsInOrder}
-use Rattle.tk_report.specs.Answers.{plan_text, IsReported}
+use Rattle.tk_plan_runs.specs.Answers.{plan_text, IsReported}
 use Rattle.tk_query.specs.AnswerTexts.{in_order_yes}
 use Rattle.testkit_headline.specs.Counting.{IsCount}
 use Rattle.testkit_headline.specs.PlanReports.{report_of, report_in}

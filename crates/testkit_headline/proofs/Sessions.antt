@@ -3,7 +3,7 @@ use Rattle.std.proofs.Common.{◌≡◌, ◌≢◌, ◌==◌, ℕ, Bool, true, f
 use Rattle.std.proofs.lemmas.Bool.{cases_eq}
 use Rattle.std.proofs.lemmas.List.Elements.{All-nil, All-cons}
 use Rattle.tk_events.specs.declared.events.Event.{Event}
-use Rattle.tk_record_columns.specs.Mixing.{IsWorkerOf, of_worker, Mix}
+use Rattle.tk_record.specs.Mixing.{IsWorkerOf, of_worker, Mix}
 use Rattle.tk_queue_core.specs.declared.items.Item.{Item}
 use Rattle.tk_queue_core.specs.declared.items.Item.TheVariants.{Entry as Emitted, End}
 use Rattle.tk_queue_core.specs.Core.{Core, IsCore, worker_of, items_of, entries, script}

@@ -1,21 +1,21 @@
 -- The headline of README.md as one theorem: each field has a part of it as its comment.
 use Rattle.std.specs.Prelude.{◌≡◌, ◌↔◌, ℕ, true, List, ◌++◌, filter, All, Option, Some, Ok}
 use Rattle.std.specs.Io.KnownBytes.{Appends}
-use Rattle.tk_record_columns.specs.Recorded.{Recorded}
-use Rattle.tk_record_columns.specs.Mixing.{Mix}
-use Rattle.tk_record_columns.specs.Statistics.{statistics_of, statistic_rows}
-use Rattle.tk_record_columns.specs.Selections.{Selected, all_of, events_of, filtered_by, selects}
-use Rattle.tk_record_columns.specs.declared.selections.Selection.{Selection}
+use Rattle.tk_record.specs.Recorded.{Recorded}
+use Rattle.tk_record.specs.Mixing.{Mix}
+use Rattle.tk_record.specs.Statistics.{statistics_of, statistic_rows}
+use Rattle.tk_record.specs.Selections.{Selected, all_of, events_of, filtered_by, selects}
+use Rattle.tk_record.specs.declared.selections.Selection.{Selection}
 use Rattle.tk_query_conditions.specs.declared.conditions.Condition.{Condition}
 use Rattle.tk_query.specs.declared.answers.InOrder.{InOrder}
 use Rattle.tk_query.specs.Asked.{fits}
 use Rattle.tk_query.specs.InOrder.{CanHoldInTurn}
 use Rattle.tk_query.specs.Matches.{IsInOrder}
-use Rattle.tk_book.specs.NeedView.{NeedView}
-use Rattle.tk_book.specs.Holdings.{WritersAreAlone}
+use Rattle.tk_locks.specs.NeedView.{NeedView}
+use Rattle.tk_locks.specs.Holdings.{WritersAreAlone}
 use Rattle.tk_queue_core.specs.Core.{Core, entries}
 use Rattle.tk_engine_runs.specs.Parts.{EachHasItsList}
-use Rattle.tk_report.specs.Answers.{IsReported}
+use Rattle.tk_plan_runs.specs.Answers.{IsReported}
 use Rattle.tk_query.specs.AnswerTexts.{in_order_yes}
 use Rattle.testkit_questions.specs.Laws.{AnswerIsUnique}
 use Rattle.testkit_headline.specs.Schedules.{

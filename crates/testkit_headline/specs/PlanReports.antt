@@ -1,9 +1,9 @@
 -- The report of a plan as a function of its bytes.
 use Rattle.std.specs.Prelude.{ℕ, List, Option, Some, None, Result, Ok, Err}
-use Rattle.tk_plan_units.specs.Trees.{Tree}
-use Rattle.tk_plan_members.specs.declared.faults.PlanFault.{PlanFault}
-use Rattle.tk_plan.specs.PlanAnswers.{plan_in}
-use Rattle.tk_report.specs.Answers.{plan_text}
+use Rattle.tk_plan.specs.Trees.{Tree}
+use Rattle.tk_plan_json_members.specs.declared.faults.PlanFault.{PlanFault}
+use Rattle.tk_plan_reading.specs.PlanAnswers.{plan_in}
+use Rattle.tk_plan_runs.specs.Answers.{plan_text}
 
 -- the report of a plan, where there is one
 abbrev pub report_of : Result Tree PlanFault → Option (List ℕ)

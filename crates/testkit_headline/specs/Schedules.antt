@@ -1,14 +1,14 @@
 -- Schedules: in which order the atomic steps of a session, or of a lock book, may come.
 use Rattle.std.specs.Prelude.{◌≡◌, ℕ, ◌⊎◌, true, false, List, [], ◌∷◌, ◌++◌}
 use Rattle.std.specs.Prelude.{Option, None, replicate}
-use Rattle.tk_record_columns.specs.Mixing.{IsWorkerOf}
+use Rattle.tk_record.specs.Mixing.{IsWorkerOf}
 use Rattle.tk_queue_core.specs.declared.items.Item.{Item}
 use Rattle.tk_queue_core.specs.declared.items.Item.TheVariants.{End}
 use Rattle.tk_queue_core.specs.Core.{Core, worker_of, items_of, push, take_first}
 use Rattle.tk_queue_session.specs.Marks.{is_marked}
 use Rattle.tk_queue_session.specs.CoreSteps.{fresh_core}
-use Rattle.tk_book.specs.NeedView.{NeedView}
-use Rattle.tk_book.specs.Holdings.{Grants, Releases}
+use Rattle.tk_locks.specs.NeedView.{NeedView}
+use Rattle.tk_locks.specs.Holdings.{Grants, Releases}
 
 -- one of the workers 1 to n, which has not ended, puts an event or its end mark into the queue
 abbrev pub IsPush : ℕ → Core → Core → Type 0

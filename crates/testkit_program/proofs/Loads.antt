@@ -4,7 +4,7 @@ use Rattle.std.specs.Prelude.{IfSome}
 use Rattle.testkit_command_line.specs.declared.jobs.Job.TheVariants as jobs
 use Rattle.testkit_program.specs.declared.faults.Fault.TheVariants as faults
 use Rattle.testkit_program.specs.Jobs.{Devices, IsBroken, IsRefused, Transfer}
-use Rattle.tk_record.specs.declared.reading.TheConstants.{MAX_TEXT}
+use Rattle.tk_record_text.specs.declared.reading.TheConstants.{MAX_TEXT}
 use Rattle.tk_streams.specs.declared.transfers.LoadFault.{LoadFault}
 use Rattle.tk_streams.specs.declared.transfers.LoadFault.TheVariants as loads
 

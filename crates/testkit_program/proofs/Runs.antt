@@ -3,15 +3,15 @@ use Rattle.std.proofs.Common.{◌≡◌, ◌<◌, ◌≤◌, length, ◌++◌, �
 use Rattle.std.specs.Prelude.{IfSome, IfOk, IfErr, OnErr}
 use Rattle.std.specs.Io.KnownBytes.{Appends}
 use Rattle.testkit_command_line.specs.declared.jobs.Job.TheVariants as jobs
-use Rattle.tk_record.specs.declared.reading.TheConstants.{MAX_TEXT}
+use Rattle.tk_record_text.specs.declared.reading.TheConstants.{MAX_TEXT}
 use Rattle.tk_streams.specs.Stream.{AppendsPrefix, ConsumesUpTo, IsLoaded}
 use Rattle.tk_streams.specs.declared.transfers.LoadFault.{LoadFault}
 use Rattle.tk_streams.specs.declared.transfers.LoadFault.TheVariants as loads
-use Rattle.tk_report.specs.declared.faults.ReportFault.{ReportFault}
-use Rattle.tk_report.specs.declared.faults.ReportFault.TheVariants.{Plan, Run, Device, Memory}
-use Rattle.tk_report.specs.declared.plan_runs.PlanRun.{PlanRun}
-use Rattle.tk_report.specs.Answers.{IsNoPlan, IsNotRun, IsPlanRun, IsReported, OfPlan}
-use Rattle.tk_report.proofs.RunEvents.{not_reported, reported}
+use Rattle.tk_plan_runs.specs.declared.faults.ReportFault.{ReportFault}
+use Rattle.tk_plan_runs.specs.declared.faults.ReportFault.TheVariants.{Plan, Run, Device, Memory}
+use Rattle.tk_plan_runs.specs.declared.plan_runs.PlanRun.{PlanRun}
+use Rattle.tk_plan_runs.specs.Answers.{IsNoPlan, IsNotRun, IsPlanRun, IsReported, OfPlan}
+use Rattle.tk_plan_runs.proofs.RunEvents.{not_reported, reported}
 use Rattle.testkit_program.specs.declared.faults.Fault.{Fault}
 use Rattle.testkit_program.specs.declared.faults.Fault.TheVariants as faults
 use Rattle.testkit_program.specs.Jobs.{Devices, IsBroken, IsDone, IsOfWords, IsRefused}

@@ -9,19 +9,19 @@ use Rattle.testkit_command_line.specs.declared.faults.CommandLineFault.{CommandL
 use Rattle.testkit_program.specs.Statuses.{fault_of_line}
 use Rattle.testkit_program.specs.declared.faults.Fault.{Fault}
 use Rattle.testkit_program.specs.declared.faults.Fault.TheVariants as faults
-use Rattle.tk_record.specs.declared.reading.ReadFault.TheVariants as reads
+use Rattle.tk_record_text.specs.declared.reading.ReadFault.TheVariants as reads
 use Rattle.testkit_questions.specs.declared.faults.AskFault.{AskFault}
 use Rattle.testkit_questions.specs.declared.faults.AskFault.TheVariants as asks
 use Rattle.tk_queue_replay.specs.declared.replays.ReplayFault.{ReplayFault}
 use Rattle.tk_queue_replay.specs.declared.replays.ReplayFault.TheVariants as replays
 use Rattle.tk_streams.specs.declared.transfers.LoadFault.TheVariants as loads
-use Rattle.tk_report.specs.declared.faults.ReportFault.{ReportFault}
-use Rattle.tk_report.specs.declared.faults.ReportFault.TheVariants as reports
-use Rattle.tk_record.specs.declared.reading.TheConstants.{MAX_TEXT}
+use Rattle.tk_plan_runs.specs.declared.faults.ReportFault.{ReportFault}
+use Rattle.tk_plan_runs.specs.declared.faults.ReportFault.TheVariants as reports
+use Rattle.tk_record_text.specs.declared.reading.TheConstants.{MAX_TEXT}
 use Rattle.tk_streams.specs.Stream.{AppendsPrefix}
 use Rattle.tk_queue_replay.specs.ReplayText.{IsWritten, IsPartlyWritten, Plays}
 use Rattle.tk_queue_replay.specs.ReplayText.{IsAnswer as IsPlayedAs}
-use Rattle.tk_report.specs.Answers.{OfPlan, MayWork, IsNoPlan, IsNotRun}
+use Rattle.tk_plan_runs.specs.Answers.{OfPlan, MayWork, IsNoPlan, IsNotRun}
 use Rattle.testkit_questions.specs.Asked.{AddsAnswer, AddsPrefix, IsRefusal}
 use Rattle.testkit_questions.specs.Asked as asked
 

@@ -4,11 +4,11 @@ use Rattle.std.specs.Fmt.{decimal}
 use Rattle.testkit_questions.specs.Characters.{line_feed}
 use Rattle.tk_streams.specs.FaultTexts.{load_fault_text}
 use Rattle.tk_queue_replay.specs.FaultTexts.{replay_fault_text}
-use Rattle.tk_report.specs.FaultTexts.{report_fault_text}
+use Rattle.tk_plan_runs.specs.FaultTexts.{report_fault_text}
 use Rattle.testkit_questions.specs.FaultTexts.{ask_fault_text}
 use Rattle.tk_engine_execute.specs.declared.run_faults.RunFault.TheVariants as runs
-use Rattle.tk_report.specs.declared.faults.ReportFault.{ReportFault}
-use Rattle.tk_report.specs.declared.faults.ReportFault.TheVariants as reports
+use Rattle.tk_plan_runs.specs.declared.faults.ReportFault.{ReportFault}
+use Rattle.tk_plan_runs.specs.declared.faults.ReportFault.TheVariants as reports
 use Rattle.testkit_program.specs.declared.faults.Fault.{Fault}
 use Rattle.testkit_program.specs.declared.faults.Fault.TheVariants as faults
 

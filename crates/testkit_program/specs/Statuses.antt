@@ -4,14 +4,14 @@ use Rattle.testkit_command_line.specs.declared.faults.CommandLineFault.{CommandL
 use Rattle.testkit_command_line.specs.declared.faults.CommandLineFault.TheVariants as lines
 use Rattle.testkit_program.specs.declared.faults.Fault.{Fault}
 use Rattle.testkit_program.specs.declared.faults.Fault.TheVariants as faults
-use Rattle.tk_record.specs.declared.reading.ReadFault.TheVariants as reads
+use Rattle.tk_record_text.specs.declared.reading.ReadFault.TheVariants as reads
 use Rattle.tk_query_conditions.specs.declared.faults.CondFault.TheVariants as conditions
 use Rattle.testkit_questions.specs.declared.faults.AskFault.TheVariants as asks
 use Rattle.tk_queue_replay.specs.declared.replays.ReplayFault.TheVariants as replays
 use Rattle.tk_streams.specs.declared.transfers.LoadFault.TheVariants as loads
-use Rattle.tk_plan_members.specs.declared.faults.PlanFault.TheVariants as plans
+use Rattle.tk_plan_json_members.specs.declared.faults.PlanFault.TheVariants as plans
 use Rattle.tk_engine_execute.specs.declared.run_faults.RunFault.TheVariants as runs
-use Rattle.tk_report.specs.declared.faults.ReportFault.TheVariants as reports
+use Rattle.tk_plan_runs.specs.declared.faults.ReportFault.TheVariants as reports
 
 -- what a fault of the command line is in the program
 abbrev pub fault_of_line : CommandLineFault → Fault

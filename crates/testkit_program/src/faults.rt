@@ -6,11 +6,12 @@ ghost use Rattle.testkit_program.specs.declared.faults.Fault.TheVariants.{Ask, R
 use testkit_command_line::CommandLineFault;
 use testkit_questions::AskFault;
 use tk_engine_execute::RunFault;
-use tk_plan::PlanFault;
+use tk_plan_json_members::PlanFault;
+use tk_plan_runs::ReportFault;
 use tk_query_conditions::CondFault;
 use tk_queue_replay::ReplayFault;
-use tk_record::{LoadFault, ReadFault};
-use tk_report::ReportFault;
+use tk_record_text::ReadFault;
+use tk_streams::LoadFault;
 
 /// Why the program did not do its job.
 #[derive(Debug, Drop)]

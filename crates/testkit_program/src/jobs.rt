@@ -1,6 +1,6 @@
 //! The jobs of the program.
 ghost use Rattle.std.specs.Prelude.{◌≡◌, ◌+◌, ◌⊎◌, true, map, string_bytes, Err, IfErr, IfOk, OnOk};
-ghost use Rattle.tk_record.specs.declared.reading.TheConstants.{MAX_TEXT};
+ghost use Rattle.tk_record_text.specs.declared.reading.TheConstants.{MAX_TEXT};
 ghost use Rattle.tk_streams.specs.Stream.{ConsumesUpTo};
 ghost use Rattle.tk_streams.specs.declared.transfers.LoadFault.{LoadFault};
 ghost use Rattle.tk_streams.specs.declared.transfers.TheConstants.{CHUNK};
@@ -17,9 +17,10 @@ use std::sync::Wait;
 use std::thread::Threads;
 use testkit_command_line::{CommandLineFault, Job, job_of};
 use testkit_questions::ask;
+use tk_plan_runs::{PlanRun, ReportFault, run_plan, write_report};
 use tk_queue_replay::replay_text;
-use tk_record::{LoadFault, MAX_TEXT, Source, Target, load};
-use tk_report::{PlanRun, ReportFault, run_plan, write_report};
+use tk_record_text::MAX_TEXT;
+use tk_streams::{LoadFault, Source, Target, load};
 
 /// Writes the report of a plan's run, or answers why the plan was not run.
 ///

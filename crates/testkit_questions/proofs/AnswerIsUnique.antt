@@ -1,11 +1,11 @@
 -- The same words about the same input have one outcome.
 use Rattle.std.proofs.Common.{◌≡◌, ℕ, Bool, List, Some, Result, Ok, Err, refl, sym, ap, subst, ◌∙◌}
-use Rattle.tk_record_columns.specs.Recorded.{Recorded}
-use Rattle.tk_record.specs.declared.reading.ReadFault.{ReadFault}
-use Rattle.tk_record.specs.declared.reading.ReadFault.TheVariants as read
-use Rattle.tk_record.specs.Laws as record_laws
-use Rattle.tk_record.specs.Text.{IsAnswer}
-use Rattle.tk_record.proofs.AnswerIsUnique as recorded
+use Rattle.tk_record.specs.Recorded.{Recorded}
+use Rattle.tk_record_text.specs.declared.reading.ReadFault.{ReadFault}
+use Rattle.tk_record_text.specs.declared.reading.ReadFault.TheVariants as read
+use Rattle.tk_record_text.specs.Laws as record_laws
+use Rattle.tk_record_text.specs.Text.{IsAnswer}
+use Rattle.tk_record_text.proofs.AnswerIsUnique as recorded
 use Rattle.testkit_questions.specs.declared.faults.AskFault.{AskFault}
 use Rattle.testkit_questions.specs.declared.faults.AskFault.TheVariants as faults
 use Rattle.testkit_questions.specs.declared.requests.Request.{Request}

@@ -7,18 +7,18 @@ use Rattle.std.specs.Prelude.{◌==◌}
 use Rattle.std.specs.List.{flat_map, list_all}
 use Rattle.std.proofs.lemmas.List.Elements.{filter_agree}
 use Rattle.std.proofs.lemmas.List.Folds.{list_all_more}
-use Rattle.tk_lemmas.proofs.Truth.{and-true}
-use Rattle.tk_record_columns.specs.declared.statistics.Statistics.{Statistics}
-use Rattle.tk_record_columns.specs.declared.statistics.Expected.{Expected}
-use Rattle.tk_record_columns.specs.declared.statistics.Mismatch.{Mismatch}
-use Rattle.tk_record_columns.specs.Recorded.{Recorded}
-use Rattle.tk_record_columns.specs.Selections.{PositionedEntry, positioned_from, positioned, Selected, all_of, events_of, filtered_by, selects}
-use Rattle.tk_record_columns.specs.declared.selections.Selection.{Selection}
+use Rattle.tk_base.proofs.Truth.{and-true}
+use Rattle.tk_record.specs.declared.statistics.Statistics.{Statistics}
+use Rattle.tk_record.specs.declared.statistics.Expected.{Expected}
+use Rattle.tk_record.specs.declared.statistics.Mismatch.{Mismatch}
+use Rattle.tk_record.specs.Recorded.{Recorded}
+use Rattle.tk_record.specs.Selections.{PositionedEntry, positioned_from, positioned, Selected, all_of, events_of, filtered_by, selects}
+use Rattle.tk_record.specs.declared.selections.Selection.{Selection}
 use Rattle.tk_query_conditions.specs.declared.conditions.Condition.{Condition}
 use Rattle.tk_query.specs.Holds.{holds}
-use Rattle.tk_record_columns.specs.Statistics.{statistics_of, mismatches}
-use Rattle.tk_record_columns.proofs.Picking.{all_events}
-use Rattle.tk_record.specs.StatisticsText.{statistics_text}
+use Rattle.tk_record.specs.Statistics.{statistics_of, mismatches}
+use Rattle.tk_record.proofs.PickedEntries.{all_events}
+use Rattle.tk_record_text.specs.StatisticsText.{statistics_text}
 use Rattle.testkit_questions.specs.Answers.{IsAnswerTo, events_where, mismatch_line}
 use Rattle.testkit_questions.specs.declared.questions.Question.TheVariants.{Stats}
 

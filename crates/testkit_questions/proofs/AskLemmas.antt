@@ -1,13 +1,13 @@
 -- An answer, from what reading and writing gave.
 use Rattle.std.proofs.Common.{sym, ◌≡◌, ◌⊎◌, arith, [], ℕ, Bool, List, Option, Some, None, Result, Ok, Err, refl, subst, inl, inr}
 use Rattle.std.specs.Prelude.{IfErr, IfOk, IfSome, IsErrOf, OnOk}
-use Rattle.tk_record_columns.specs.Recorded.{Recorded}
-use Rattle.tk_record.specs.Text.{IsAnswer}
+use Rattle.tk_record.specs.Recorded.{Recorded}
+use Rattle.tk_record_text.specs.Text.{IsAnswer}
 use Rattle.testkit_questions.specs.declared.requests.Request.{Request}
 use Rattle.testkit_questions.specs.declared.faults.AskFault.{AskFault}
 use Rattle.testkit_questions.specs.declared.faults.AskFault.TheVariants as faults
-use Rattle.tk_record.specs.declared.reading.ReadFault.{ReadFault}
-use Rattle.tk_record.specs.declared.reading.ReadFault.TheVariants as read
+use Rattle.tk_record_text.specs.declared.reading.ReadFault.{ReadFault}
+use Rattle.tk_record_text.specs.declared.reading.ReadFault.TheVariants as read
 use Rattle.testkit_questions.specs.Requests.{IsRequestedAs, Requests}
 use Rattle.tk_explanations.specs.Explained.{IsExplained}
 use Rattle.tk_explanations.specs.declared.faults.ExplainFault.{ExplainFault}

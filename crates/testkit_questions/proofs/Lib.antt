@@ -2,9 +2,9 @@ pub mod AnswerLemmas
 pub mod AskLemmas
 pub mod WordLemmas
 pub mod RequestLemmas
-pub mod OneReading
+pub mod UniqueReading
 pub mod OneRequest
-pub mod OneReply
+pub mod UniqueReply
 pub mod LikeExplanations
 pub mod OneResponse
 pub mod AnswerIsUnique

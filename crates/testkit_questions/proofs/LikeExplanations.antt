@@ -2,8 +2,8 @@
 use Rattle.std.proofs.Common.{◌≡◌, ℕ, ◌+◌, ◌++◌, ◌∷◌, [], Bool, cond, List, map, take, Option, Some, None, refl, sym, ap₂, subst, ◌∙◌}
 use Rattle.std.specs.List.{slice_get}
 use Rattle.tk_events.specs.declared.events.Entry.{Entry}
-use Rattle.tk_record_columns.specs.Recorded.{Recorded}
-use Rattle.tk_record_columns.specs.Selections.{PositionedEntry, Selected, positions_of}
+use Rattle.tk_record.specs.Recorded.{Recorded}
+use Rattle.tk_record.specs.Selections.{PositionedEntry, Selected, positions_of}
 use Rattle.tk_query_conditions.specs.declared.conditions.Condition.{Condition}
 use Rattle.tk_query_conditions.specs.Cond.{Cond}
 use Rattle.tk_query_conditions.specs.CondOf.{cond_of}
@@ -17,8 +17,8 @@ use Rattle.tk_query_nearest.specs.Nearness.{IsNearest}
 use Rattle.tk_explanations.specs.MatchRows.{condition_row, found_rows, lacking_row, lacks, near_rows}
 use Rattle.tk_explanations.specs.Matches.{AreFirstFits, ExplainsExactly, ExplainsInOrder, ExplainsLoosely, IsLastFit, after, early_rows, exact_rows, last_of, unlike_rows}
 use Rattle.tk_explanations.specs.Collisions.{ExplainsExclusive}
-use Rattle.testkit_questions.proofs.OneReading.{AreAlike}
-use Rattle.testkit_questions.proofs.OneReply.{as_many, exact_too, exclusive_too, in_order_too, like_at, loose_too, least_too, prefix, same_fits, same_holds}
+use Rattle.testkit_questions.proofs.UniqueReading.{AreAlike}
+use Rattle.testkit_questions.proofs.UniqueReply.{as_many, exact_too, exclusive_too, in_order_too, like_at, loose_too, least_too, prefix, same_fits, same_holds}
 
 -- ---- rows
 

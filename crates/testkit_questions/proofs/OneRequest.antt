@@ -11,7 +11,7 @@ use Rattle.testkit_questions.specs.declared.requests.Request.TheVariants as requ
 use Rattle.testkit_questions.specs.Explainables.{asking, question_of}
 use Rattle.testkit_questions.specs.Questions.{mode_name, match_word}
 use Rattle.testkit_questions.specs.Requests.{NamesMode, NamesExplainable, IsExplainedAs, IsRequestedAs, answering, explain_word, explaining, explaining_later, one_later}
-use Rattle.testkit_questions.proofs.OneReading.{AreSame, IsOfWords, SameReading, one_reading}
+use Rattle.testkit_questions.proofs.UniqueReading.{AreSame, IsOfWords, SameReading, one_reading}
 
 -- requests for the same
 abbrev pub AreSameRequests : Request → Request → Type 0

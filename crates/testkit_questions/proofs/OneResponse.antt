@@ -1,8 +1,8 @@
 -- What words ask for has one response about a record.
 use Rattle.std.proofs.Common.{◌≡◌, ℕ, Bool, List, ap, subst, ◌∙◌}
-use Rattle.tk_record_columns.specs.declared.selections.Selection.{Selection}
-use Rattle.tk_record_columns.specs.Recorded.{Recorded}
-use Rattle.tk_record_columns.specs.Selections.{Selected, all_of}
+use Rattle.tk_record.specs.declared.selections.Selection.{Selection}
+use Rattle.tk_record.specs.Recorded.{Recorded}
+use Rattle.tk_record.specs.Selections.{Selected, all_of}
 use Rattle.tk_query_conditions.specs.declared.conditions.Condition.{Condition}
 use Rattle.tk_explanations.specs.Collisions.{ExplainsExclusive}
 use Rattle.tk_explanations.specs.Laws.{IsUnique}
@@ -19,8 +19,8 @@ use Rattle.testkit_questions.specs.Answers.{events_where}
 use Rattle.testkit_questions.specs.Explainables.{question_of}
 use Rattle.testkit_questions.specs.Explanations.{Explains, ExplainsMatch, IsResponseTo}
 use Rattle.testkit_questions.proofs.LikeExplanations.{exactly_too, holders_too, in_turn_too, loosely_too}
-use Rattle.testkit_questions.proofs.OneReading.{AreAlike, AreSame}
-use Rattle.testkit_questions.proofs.OneReply.{one_reply, same_events}
+use Rattle.testkit_questions.proofs.UniqueReading.{AreAlike, AreSame}
+use Rattle.testkit_questions.proofs.UniqueReply.{one_reply, same_events}
 use Rattle.testkit_questions.proofs.OneRequest.{AreSameRequests}
 
 -- each explanation is determined by what it is of

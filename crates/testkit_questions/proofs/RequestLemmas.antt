@@ -2,7 +2,7 @@
 use Rattle.std.proofs.Common.{◌≡◌, ◌≢◌, ℕ, ◌+◌, ◌∷◌, [], List, map, Result, Ok, Err, refl, sym, ap, subst, inl, inr}
 use Rattle.tk_query_conditions.specs.declared.faults.CondFault.{CondFault}
 use Rattle.tk_query_conditions.specs.declared.faults.CondFault.TheVariants as condition_faults
-use Rattle.tk_record.specs.declared.reading.ReadFault.{ReadFault}
+use Rattle.tk_record_text.specs.declared.reading.ReadFault.{ReadFault}
 use Rattle.testkit_questions.specs.declared.faults.AskFault.{AskFault}
 use Rattle.testkit_questions.specs.declared.faults.AskFault.TheVariants as faults
 use Rattle.testkit_questions.specs.declared.questions.Explainable.{Explainable}

@@ -17,19 +17,19 @@ use Rattle.std.specs.Prelude.{
 }
 use Rattle.std.specs.List.{flat_map, list_all}
 use Rattle.std.specs.Fmt.{decimal}
-use Rattle.tk_record_columns.specs.declared.selections.Selection.{Selection}
-use Rattle.tk_record_columns.specs.declared.statistics.Mismatch.{Mismatch}
-use Rattle.tk_record_columns.specs.Recorded.{Recorded}
-use Rattle.tk_record_columns.specs.Selections.{
+use Rattle.tk_record.specs.declared.selections.Selection.{Selection}
+use Rattle.tk_record.specs.declared.statistics.Mismatch.{Mismatch}
+use Rattle.tk_record.specs.Recorded.{Recorded}
+use Rattle.tk_record.specs.Selections.{
   selection_name,
   Selected,
   all_of,
   filtered_by,
   selects,
 }
-use Rattle.tk_record_columns.specs.Statistics.{statistics_of, mismatches}
-use Rattle.tk_record.specs.StatisticsText.{statistics_text}
-use Rattle.tk_record.specs.EventLists.{event_list}
+use Rattle.tk_record.specs.Statistics.{statistics_of, mismatches}
+use Rattle.tk_record_text.specs.StatisticsText.{statistics_text}
+use Rattle.tk_record_text.specs.EventLists.{event_list}
 use Rattle.tk_query_conditions.specs.declared.conditions.Condition.{Condition}
 use Rattle.tk_query.specs.declared.answers.Exact.{Exact}
 use Rattle.tk_query.specs.declared.answers.Exclusive.{Exclusive}

@@ -2,13 +2,13 @@
 use Rattle.std.specs.Prelude.{◌≢◌, ◌≤◌, ◌+◌, ◌⊎◌, ℕ, Bool, List, length, Option, Ok, Err}
 use Rattle.std.specs.Prelude.{IfSome}
 use Rattle.std.specs.Io.KnownBytes.{Appends, IsAtEnd}
-use Rattle.tk_record_columns.specs.Recorded.{Recorded}
+use Rattle.tk_record.specs.Recorded.{Recorded}
 use Rattle.tk_streams.specs.Stream.{AppendsPrefix, ConsumesUpTo}
 use Rattle.tk_streams.specs.declared.transfers.TheConstants.{CHUNK}
 use Rattle.tk_query_conditions.specs.declared.faults.CondFault.TheVariants as conditions
-use Rattle.tk_record.specs.declared.reading.ReadFault.TheVariants as read
-use Rattle.tk_record.specs.declared.reading.TheConstants.{MAX_TEXT}
-use Rattle.tk_record.specs.Text.{IsAnswer}
+use Rattle.tk_record_text.specs.declared.reading.ReadFault.TheVariants as read
+use Rattle.tk_record_text.specs.declared.reading.TheConstants.{MAX_TEXT}
+use Rattle.tk_record_text.specs.Text.{IsAnswer}
 use Rattle.testkit_questions.specs.declared.faults.AskFault.{AskFault}
 use Rattle.testkit_questions.specs.declared.faults.AskFault.TheVariants as faults
 use Rattle.testkit_questions.specs.declared.requests.Request.{Request}

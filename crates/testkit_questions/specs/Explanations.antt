@@ -1,7 +1,7 @@
 -- What words that ask for something are answered.
 use Rattle.std.specs.Prelude.{ℕ, Bool, List}
-use Rattle.tk_record_columns.specs.Recorded.{Recorded}
-use Rattle.tk_record_columns.specs.Selections.{all_of}
+use Rattle.tk_record.specs.Recorded.{Recorded}
+use Rattle.tk_record.specs.Selections.{all_of}
 use Rattle.tk_query_conditions.specs.declared.conditions.Condition.{Condition}
 use Rattle.tk_explanations.specs.Collisions.{ExplainsExclusive}
 use Rattle.tk_explanations.specs.Lifecycles.{ExplainsLifecycle}

@@ -4,7 +4,7 @@ use Rattle.std.specs.Fmt.{decimal}
 use Rattle.tk_query_conditions.specs.declared.faults.CondFault.{CondFault}
 use Rattle.tk_query_conditions.specs.declared.faults.CondFault.TheVariants as conditions
 use Rattle.tk_query_conditions.specs.FaultTexts.{condition_fault_text}
-use Rattle.tk_record.specs.FaultTexts.{read_fault_text}
+use Rattle.tk_record_text.specs.FaultTexts.{read_fault_text}
 use Rattle.testkit_questions.specs.declared.faults.AskFault.{AskFault}
 use Rattle.testkit_questions.specs.declared.faults.AskFault.TheVariants as asks
 use Rattle.testkit_questions.specs.declared.conditions.ConditionsFault.{ConditionsFault}

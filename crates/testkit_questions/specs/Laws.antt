@@ -1,6 +1,6 @@
 -- What follows from the definitions of questions and of their answers.
 use Rattle.std.specs.Prelude.{◌≡◌, ℕ, Bool, List, Some}
-use Rattle.tk_record.specs.declared.reading.ReadFault.TheVariants as read
+use Rattle.tk_record_text.specs.declared.reading.ReadFault.TheVariants as read
 use Rattle.testkit_questions.specs.declared.faults.AskFault.{AskFault}
 use Rattle.testkit_questions.specs.declared.faults.AskFault.TheVariants as faults
 use Rattle.testkit_questions.specs.Asked.{IsAnswered, IsRefusal}

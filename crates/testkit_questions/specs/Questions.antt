@@ -33,10 +33,10 @@ use Rattle.tk_query_conditions.specs.declared.conditions.Condition.{Condition}
 use Rattle.tk_query_conditions.specs.Answer.{IsReadAs}
 use Rattle.tk_query_conditions.specs.Cond.{Any, Nothing}
 use Rattle.tk_query_conditions.specs.CondOf.{cond_of}
-use Rattle.tk_record_columns.specs.declared.selections.Selection.{Selection}
-use Rattle.tk_record_columns.specs.declared.statistics.Expected.{Expected}
-use Rattle.tk_record_columns.specs.Selections.{selection_name}
-use Rattle.tk_record_columns.specs.Statistics.{
+use Rattle.tk_record.specs.declared.selections.Selection.{Selection}
+use Rattle.tk_record.specs.declared.statistics.Expected.{Expected}
+use Rattle.tk_record.specs.Selections.{selection_name}
+use Rattle.tk_record.specs.Statistics.{
   nothing_expected,
   expected_of,
   with_expected,

@@ -1,9 +1,9 @@
 //! Asking a question about a record text.
 ghost use Rattle.std.specs.Prelude.{◌≡◌, ◌⊎◌, true, Ok, Err, IfErr, IfOk, IfSome, IsErrOf, OnErr, OnOk, ◌+◌, map, string_bytes};
 ghost use Rattle.std.specs.Io.KnownBytes.{IsAtEnd};
-ghost use Rattle.tk_record.specs.Text.{IsAnswer};
-ghost use Rattle.tk_record.specs.declared.reading.ReadFault.TheVariants as read_faults;
-ghost use Rattle.tk_record.specs.declared.reading.TheConstants.{MAX_TEXT};
+ghost use Rattle.tk_record_text.specs.Text.{IsAnswer};
+ghost use Rattle.tk_record_text.specs.declared.reading.ReadFault.TheVariants as read_faults;
+ghost use Rattle.tk_record_text.specs.declared.reading.TheConstants.{MAX_TEXT};
 ghost use Rattle.tk_streams.specs.Stream.{ConsumesUpTo};
 ghost use Rattle.tk_streams.specs.declared.transfers.TheConstants.{CHUNK};
 ghost use Rattle.testkit_questions.specs.declared.requests.Request.TheVariants as requests;
@@ -16,7 +16,9 @@ use crate::faults::AskFault;
 use crate::questions::{Explainable, Question};
 use crate::requests::{Request, read_request};
 use std::alloc::Global;
-use tk_record::{ReadFault, Record, Source, Target, read_record};
+use tk_record::Record;
+use tk_record_text::{ReadFault, read_record};
+use tk_streams::{Source, Target};
 
 // Reads the record of the source's text.
 fn read_input<S: Source>(alloc: Global, source: &mut S) -> Result<Record, AskFault>

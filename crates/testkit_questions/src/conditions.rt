@@ -12,7 +12,7 @@ use std::alloc::{AllocFailed, Global};
 use std::convert::AsStr;
 use std::error::Error;
 use std::fmt;
-use tk_query::{CondFault, Condition, read_condition};
+use tk_query_conditions::{CondFault, Condition, read_condition};
 
 /// Why texts are not conditions.
 #[derive(Clone, Copy, Debug, PartialEq, Eq, Drop)]

@@ -1,10 +1,11 @@
 //! Expectations of statistics, as words NAME=N.
 ghost use Rattle.std.specs.Prelude.{◌≡◌, ℕ, map, string_bytes, IfOk, IfErr, IfSome, IfNone};
-ghost use Rattle.tk_record_columns.specs.Statistics.{nothing_expected};
+ghost use Rattle.tk_record.specs.Statistics.{nothing_expected};
 ghost use Rattle.testkit_questions.specs.Questions.{expecting, Expecting, IsBadExpectation, IsExpectation, IsNextExpected};
-ghost use Rattle.tk_record_columns.specs.declared.selections.Selection.{Selection};
+ghost use Rattle.tk_record.specs.declared.selections.Selection.{Selection};
 
-use tk_record::{Expected, Selection, read_number};
+use tk_record::{Expected, Selection};
+use tk_record_text::read_number;
 
 // Reads the statistic and the number of a word NAME=N.
 fn read_expectation(word: &str) -> Option<(Selection, u64)>

@@ -3,7 +3,7 @@ ghost use Rattle.std.specs.Prelude.{◌≡◌, true, IsErrOf};
 ghost use Rattle.tk_explanations.specs.Explained.{IsExplained};
 ghost use Rattle.tk_explanations.specs.Collisions.{ExplainsExclusive};
 ghost use Rattle.tk_explanations.specs.Lists.{ExplainsExecutions, ExplainsList};
-ghost use Rattle.tk_record_columns.specs.Selections.{all_of};
+ghost use Rattle.tk_record.specs.Selections.{all_of};
 ghost use Rattle.testkit_questions.specs.Answers.{events_where};
 ghost use Rattle.testkit_questions.specs.Explanations.{Explains, ExplainsMatch};
 
@@ -14,8 +14,9 @@ use tk_explanations::{
     ExplainFault, explain_exactly, explain_exclusive, explain_executions, explain_in_order,
     explain_lifecycle, explain_list, explain_loosely,
 };
-use tk_query::Condition;
-use tk_record::{Events, Record, Selection, Target};
+use tk_query_conditions::Condition;
+use tk_record::{Events, Record, Selection};
+use tk_streams::Target;
 
 fn explain_match<T: Target>(
     alloc: Global,

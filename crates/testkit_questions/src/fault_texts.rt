@@ -5,7 +5,7 @@ ghost use Rattle.testkit_questions.specs.FaultTexts.{ask_fault_text, condition_t
 
 use crate::faults::AskFault;
 use std::fmt;
-use tk_query::CondFault;
+use tk_query_conditions::CondFault;
 
 /// Writes why the word of this number is no condition.
 pub(crate) fn write_condition_fault<W: fmt::Write>(

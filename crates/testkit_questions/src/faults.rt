@@ -9,8 +9,8 @@ use crate::fault_texts::AskFaultText;
 use std::alloc::AllocError;
 use thiserror::Error;
 use tk_explanations::ExplainFault;
-use tk_query::CondFault;
-use tk_record::ReadFault;
+use tk_query_conditions::CondFault;
+use tk_record_text::ReadFault;
 
 /// Why a question is not answered, in the order in which faults are looked for.
 #[derive(Debug, Drop, Error)]

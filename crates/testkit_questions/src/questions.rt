@@ -7,7 +7,7 @@ use crate::conditions::{ConditionsFault, read_conditions, read_text};
 use crate::expectations::read_expectations;
 use crate::faults::AskFault;
 use std::alloc::Global;
-use tk_query::Condition;
+use tk_query_conditions::Condition;
 use tk_record::{Expected, Selection};
 
 /// How conditions are matched with events.

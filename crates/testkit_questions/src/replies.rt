@@ -7,8 +7,10 @@ ghost use Rattle.testkit_questions.specs.steps.Replies.{reply_is_yes, reply_text
 use crate::answers::Answer;
 use crate::execution_lines::write_executions;
 use tk_query::ExecutionIter;
-use tk_record::{Broken, Events, Target, write_all, write_event_list};
+use tk_record::Events;
+use tk_record_text::write_event_list;
 use tk_report_text::Report;
+use tk_streams::{Broken, Target, write_all};
 
 /// An answer for which no more memory is needed.
 #[derive(Drop)]

@@ -1,1 +1,1 @@
-pub mod Emitting
+pub mod Emissions

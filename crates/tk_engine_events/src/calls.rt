@@ -14,7 +14,7 @@ use tk_ids::{DType, Segment, Text};
 ///
 /// # Errors
 /// `Sink` where the sink refuses the event, as [`Sink::emit`] says. Nothing is emitted then.
-#[tactic(auto, using(crate::proofs::Emitting::emitted_one, tk_engine_execute::proofs::Growing::grew_same, tk_engine_execute::proofs::Growing::grew_one))]
+#[tactic(auto, using(crate::proofs::Emissions::emitted_one, tk_engine_execute::proofs::SinkGrowth::grew_same, tk_engine_execute::proofs::SinkGrowth::grew_one))]
 pub fn emit<R: Wait, S: Sink>(rt: &R, event: Event, sink: &mut S) -> Result<(), UnitFault>
     ensures ok { OnOk result (Emitted (S.view sink.old) (S.view sink.new) (event ∷ [])) }
     ensures err { OnErr result (S.view sink.new ≡ S.view sink.old) }
@@ -128,7 +128,7 @@ pub fn publish_file<R: Wait, S: Sink>(
 /// # Errors
 /// `Sink` where the sink refuses the registration, as [`Sink::register`] says. Nothing is emitted
 /// then.
-#[tactic(auto, using(crate::proofs::Emitting::registered_as, tk_engine_execute::proofs::Growing::grew_same))]
+#[tactic(auto, using(crate::proofs::Emissions::registered_as, tk_engine_execute::proofs::SinkGrowth::grew_same))]
 pub fn register<R: Wait, S: Sink>(
     rt: &R,
     parent: u32,

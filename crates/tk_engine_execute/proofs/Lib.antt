@@ -3,6 +3,6 @@ pub mod Emitted
 pub mod BeforeAndAfter
 pub mod Outcomes
 pub mod Positions
-pub mod Collecting
+pub mod ReceiverStates
 pub mod Tokens
-pub mod Growing
+pub mod SinkGrowth

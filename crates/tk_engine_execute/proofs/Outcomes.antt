@@ -3,7 +3,7 @@ use Rattle.std.proofs.Common.{◌≡◌, ℕ, ◌+◌, ◌<◌, ◌≤◌, true,
 use Rattle.std.specs.Prelude.{vec_len}
 use Rattle.std.proofs.lemmas.List.Elements.{All-nil, All-push, All-weaker}
 use Rattle.std.proofs.lemmas.List.Quantifiers.{all_pairs_push}
-use Rattle.tk_lemmas.proofs.Lists.{nil_from_length}
+use Rattle.tk_base.proofs.Lists.{nil_from_length}
 use Rattle.atomic_table.specs.Seated.{TableId}
 use Rattle.tk_engine_execute.specs.declared.event_collectors.EventCollector.{EventCollector}
 use Rattle.tk_engine_execute.specs.declared.worker_threads.Collected.{Collected}
@@ -12,7 +12,7 @@ use Rattle.tk_engine_execute.specs.steps.EventCollectors.{TookMore, CanCollect, 
 use Rattle.tk_engine_execute.specs.steps.WorkerThreads.{WorkersWereRun}
 use Rattle.tk_engine_execute.specs.steps.Workers.{RunUnits, IsDone, AreDone}
 use Rattle.tk_engine_execute.proofs.Positions.{snoc_all}
-use Rattle.tk_engine_execute.proofs.Collecting.{took_more-trans}
+use Rattle.tk_engine_execute.proofs.ReceiverStates.{took_more-trans}
 
 module _ (units : RunUnits) (session : TableId) where
   abbrev IsOwn : WorkerEnd → Type 0

@@ -3,7 +3,7 @@ use Rattle.std.proofs.Common.{◌≡◌, ℕ, zero, suc, ◌+◌, List, [], ◌�
 use Rattle.std.specs.Prelude.{vec_len}
 use Rattle.atomic_table.specs.Seated.{TableId}
 use Rattle.tk_ids.specs.declared.descriptors.Descriptor.{Descriptor}
-use Rattle.tk_book.specs.Books.{BookSeatView, empty}
+use Rattle.tk_locks.specs.Books.{BookSeatView, empty}
 use Rattle.tk_engine_runs.specs.Claims.{ClaimSeatView, fresh}
 use Rattle.tk_queue_session.specs.Senders.{SenderView, fresh_senders}
 use Rattle.tk_engine_execute.specs.declared.unstarted_workers.UnstartedWorkers.{UnstartedWorkers}

@@ -3,7 +3,7 @@ ghost use Rattle.std.specs.Prelude.{◌≡◌, ℕ, ◌<◌, ◌≤◌, List, le
 ghost use Rattle.std.specs.Arc.{arc_value};
 ghost use Rattle.tk_ids.specs.declared.descriptors.Descriptor.{Descriptor};
 ghost use Rattle.tk_events.specs.declared.events.Event.{Event};
-ghost use Rattle.tk_book.specs.NeedView.{NeedView};
+ghost use Rattle.tk_locks.specs.NeedView.{NeedView};
 ghost use Rattle.tk_engine_execute.specs.Engines.{IsSameSender, Extends, ExtendsAs, AreOfWorkerZero};
 ghost use Rattle.tk_engine_execute.specs.FaultTexts.{unit_fault_text};
 
@@ -12,9 +12,9 @@ use std::alloc::{AllocError, Global};
 use std::error::Error;
 use std::fmt;
 use std::sync::{Arc, Wait};
-use tk_book::{BookSeat, Need};
 use tk_events::Event;
 use tk_ids::{IdFault, Table};
+use tk_locks::{BookSeat, Need};
 use tk_queue_session::RegisterFault;
 
 /// The most units that an engine may have.

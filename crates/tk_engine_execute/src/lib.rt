@@ -20,4 +20,3 @@ pub use results::Results;
 pub use run_faults::RunFault;
 pub use runs::execute;
 pub use sinks::{Sink, SinkFault};
-pub use tk_engine_runs::{Claim, ClaimFault, ClaimSeat};

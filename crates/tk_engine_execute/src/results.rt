@@ -1,7 +1,7 @@
 //! The results of a run.
 ghost use Rattle.std.specs.Prelude.{◌≡◌, IfOk};
-ghost use Rattle.tk_record_columns.specs.declared.selections.Selection.TheVariants.{Tests, Containers};
-ghost use Rattle.tk_record_columns.specs.Selections.{all_of, filtered_by, selects};
+ghost use Rattle.tk_record.specs.declared.selections.Selection.TheVariants.{Tests, Containers};
+ghost use Rattle.tk_record.specs.Selections.{all_of, filtered_by, selects};
 ghost use Rattle.tk_query_lifecycle.specs.Lifecycle.{IsLifecycle};
 ghost use Rattle.tk_engine_execute.specs.Results.{RunResults};
 
@@ -9,7 +9,7 @@ use std::alloc::{AllocError, Global};
 use std::marker::Model;
 use tk_query_lifecycle::{Lifecycle, lifecycle};
 use tk_queue_session::Closed;
-use tk_record_columns::{Events, Record, Selection};
+use tk_record::{Events, Record, Selection};
 
 /// The results of a run: its record, and how many events each worker emitted.
 ///

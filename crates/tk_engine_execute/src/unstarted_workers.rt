@@ -3,8 +3,8 @@ ghost use Rattle.std.specs.Prelude.{◌≡◌, length, vec_len, IfSome, IfNone};
 ghost use Rattle.tk_engine_execute.specs.steps.Workers.{IsLastWorker};
 
 use crate::workers::WorkerHandles;
-use tk_book::BookSeat;
 use tk_engine_runs::ClaimSeat;
+use tk_locks::BookSeat;
 use tk_queue_session::Sender;
 
 /// The workers whose threads are not started yet: the sender and the seats of each, in the order of

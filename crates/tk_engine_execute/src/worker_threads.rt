@@ -12,8 +12,8 @@ use std::snapshot::Snapshot;
 use std::sync::Wait;
 use std::thread;
 use std::thread::{Promise, Scope, Threads};
-use tk_book::Book;
 use tk_engine_runs::Claim;
+use tk_locks::Book;
 
 /// What a worker's thread promises of the end that it returns.
 #[derive(Drop)]

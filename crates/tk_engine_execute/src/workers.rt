@@ -7,8 +7,8 @@ ghost use Rattle.tk_engine_execute.specs.steps.Workers.{shared_parts, run_units,
 use crate::engines::{Engine, UnitFault};
 use std::alloc::Global;
 use std::sync::Wait;
-use tk_book::{Book, BookSeat};
 use tk_engine_runs::{Claim, ClaimSeat};
+use tk_locks::{Book, BookSeat};
 use tk_queue_session::{Ended, Sender};
 
 /// What one worker's thread owns: its sender and its seats of the claim and the book.

@@ -4,11 +4,11 @@ use Rattle.std.proofs.Common.{refl}
 use Rattle.tk_ids.specs.IdText.{SegmentView}
 use Rattle.tk_ids.specs.Table.{AreDifferent, ids_of}
 use Rattle.tk_events.specs.declared.kinds.Kind.TheVariants.{Finished, Skipped, Started}
-use Rattle.tk_record_columns.specs.Record.{IsRecord}
-use Rattle.tk_record_columns.specs.Recorded.{Recorded}
+use Rattle.tk_record.specs.Record.{IsRecord}
+use Rattle.tk_record.specs.Recorded.{Recorded}
 use Rattle.tk_query_lifecycle.specs.KeepsLifecycle.{KeepsLifecycle}
 use Rattle.tk_query_lifecycle.specs.NeverRan.{EachChildRuns}
-use Rattle.tk_engine_laws.proofs.Turns.{IsTurned, ran_by_steps, turned_children_run}
+use Rattle.tk_plan_laws.proofs.Turns.{IsTurned, ran_by_steps, turned_children_run}
 use Rattle.tk_engine_hierarchical.specs.Laws.{HasTurn, HaveTurns}
 
 turned : (r : Recorded) (key : ℕ) → HasTurn r key → IsTurned r key

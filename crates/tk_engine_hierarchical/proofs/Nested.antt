@@ -6,23 +6,23 @@ use Rattle.tk_ids.specs.IdText.{SegmentView}
 use Rattle.tk_ids.specs.declared.descriptors.Descriptor.{Descriptor}
 use Rattle.tk_events.specs.declared.events.Event.{Event}
 use Rattle.tk_events.specs.declared.events.Entry.{Entry}
-use Rattle.tk_record_columns.specs.Mixing.{of_worker}
-use Rattle.tk_record_columns.specs.Record.{IsRecord}
-use Rattle.tk_record_columns.specs.Recorded.{Recorded}
+use Rattle.tk_record.specs.Mixing.{of_worker}
+use Rattle.tk_record.specs.Record.{IsRecord}
+use Rattle.tk_record.specs.Recorded.{Recorded}
 use Rattle.tk_queue_session.specs.Emission.{entries_by, entry_by}
 use Rattle.tk_query_lifecycle.specs.Lifecycle.{HasId}
 use Rattle.tk_engine_runs.specs.Run.{IsRun}
 use Rattle.tk_engine_lifecycle.specs.Units.{Frame, UnitsKeepLifecycle, run_alone}
-use Rattle.tk_engine_lifecycle.proofs.Apart.{Hit, KeptRun, other_first}
+use Rattle.tk_engine_lifecycle.proofs.SeparateTurns.{Hit, KeptRun, other_first}
 use Rattle.tk_engine_lifecycle.proofs.ByKey.{same_id}
 use Rattle.tk_engine_lifecycle.proofs.Splits.{unfiltered}
 use Rattle.tk_engine_lifecycle.proofs.Turns.{Each, Turn, emitted, is_by, turned}
-use Rattle.tk_engine_lifecycle.proofs.Whole.{kept_run, turn_whole}
+use Rattle.tk_engine_lifecycle.proofs.WholeRuns.{kept_run, turn_whole}
 use Rattle.tk_queue_session.proofs.ReceiverSteps.{of_worker-append}
 use Rattle.tk_engine_hierarchical.specs.Laws.{UnitsNest}
 use Rattle.tk_engine_unit_events.specs.Nesting.{BelongsTo, EachFinishes, EventsNest}
 use Rattle.tk_engine_unit_events.specs.Shapes.{ShapeView, frame, may_emit}
-use Rattle.tk_engine_unit_events.proofs.Nesting.{all_both, nest-append, nesting_none}
+use Rattle.tk_engine_unit_events.proofs.KeySpans.{all_both, nest-append, nesting_none}
 
 -- the key of each event in the middle has an event in the list
 all_hit : (l pre during post : List Event) → l ≡ pre ++ (during ++ post)

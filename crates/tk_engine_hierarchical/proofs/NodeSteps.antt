@@ -3,7 +3,7 @@ use Rattle.std.proofs.Common.{◌≡◌, ℕ, Bool, false, List, sym, ap, ◌∙
 use Rattle.std.specs.Prelude.{IfOk, OnOk, Result, Ok, Err}
 use Rattle.tk_events.specs.declared.kinds.Kind.TheVariants.{Skipped, Started}
 use Rattle.tk_events.specs.declared.payloads.Payload.TheVariants as payloads
-use Rattle.tk_plan_units.specs.declared.trees.nodes.Node.{Node}
+use Rattle.tk_plan.specs.declared.trees.nodes.Node.{Node}
 use Rattle.tk_engine_unit_events.specs.UnitSteps.{ChildView, HasSkipped, HasStarted, UnitView}
 use Rattle.tk_engine_unit_events.specs.UnitSteps.{child_request, event}
 use Rattle.tk_engine_unit_events.proofs.UnitSteps.{on_ok}

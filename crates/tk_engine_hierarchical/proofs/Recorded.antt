@@ -10,7 +10,7 @@ use Rattle.std.proofs.lemmas.List.Elements.{All-weaker}
 use Rattle.std.proofs.lemmas.List.Sums.{length-filter}
 use Rattle.std.proofs.lemmas.List.Recursion.{is_sum_by}
 use Rattle.std.proofs.lemmas.Option.{slice_get_within}
-use Rattle.tk_plan_units.specs.Planned.{Outline}
+use Rattle.tk_plan.specs.Planned.{Outline}
 use Rattle.tk_ids.specs.declared.descriptors.Descriptor.{Descriptor}
 use Rattle.tk_events.specs.Event.{kind_code}
 use Rattle.tk_events.specs.declared.events.Event.{Event}
@@ -18,15 +18,15 @@ use Rattle.tk_events.specs.declared.events.Entry.{Entry}
 use Rattle.tk_events.specs.declared.kinds.Kind.{Kind}
 use Rattle.tk_events.specs.declared.kinds.Kind.TheVariants.{Dynamic, File, Finished, Reporting}
 use Rattle.tk_events.specs.declared.kinds.Kind.TheVariants.{Skipped, Started}
-use Rattle.tk_record_columns.specs.Recorded.{Recorded}
-use Rattle.tk_record_columns.specs.Mixing.{IsWorkerOf, of_worker}
+use Rattle.tk_record.specs.Recorded.{Recorded}
+use Rattle.tk_record.specs.Mixing.{IsWorkerOf, of_worker}
 use Rattle.tk_queue_session.specs.Emission.{entries_by, entry_by, registrations}
 use Rattle.tk_query_lifecycle.specs.Lifecycle.{has_event, is_event}
 use Rattle.tk_query_lifecycle.specs.KeepsLifecycle.{IsWhole, KeepsLifecycle, is_step, steps_of}
 use Rattle.tk_engine_runs.specs.Claims.{once_below, times}
 use Rattle.tk_engine_execute.proofs.Emitted.{registrations-append}
 use Rattle.tk_engine_runs.specs.Run.{Emits, IsRun, IsShared}
-use Rattle.tk_engine_lifecycle.proofs.Apart.{other_first, own_first}
+use Rattle.tk_engine_lifecycle.proofs.SeparateTurns.{other_first, own_first}
 use Rattle.tk_engine_unit_events.specs.Covered.{IsCovered}
 use Rattle.tk_engine_unit_events.specs.Endings.{EndsAsItMay, IsStaticTest}
 use Rattle.tk_engine_hierarchical.specs.Laws.{FollowsPlan, HasOutcomes, HasTurn, HaveTurns}
@@ -35,7 +35,7 @@ use Rattle.tk_engine_hierarchical.specs.StaticSteps.{FitsPlan}
 use Rattle.tk_engine_unit_events.specs.Units.{StepsAs}
 use Rattle.tk_engine_unit_events.specs.declared.outcomes.Outcome.{Outcome}
 use Rattle.tk_engine_unit_events.proofs.Played.{any-append, any_kept, covered_by}
-use Rattle.tk_lemmas.proofs.Lists.{get_below}
+use Rattle.tk_base.proofs.Lists.{get_below}
 use Rattle.std.proofs.lemmas.Bool.{and_parts, or_cases, or_left, or_right}
 
 -- ---- the events of the workers

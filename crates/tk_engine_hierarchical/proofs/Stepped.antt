@@ -4,20 +4,20 @@ use Rattle.std.proofs.Common.{◌++◌, length, take, drop, Some, slice_get, All
 use Rattle.std.proofs.Common.{sym, ap, ◌∙◌, subst}
 use Rattle.std.proofs.lemmas.List.Elements.{All-nil, All-cons, All-head, All-tail, All-append}
 use Rattle.std.proofs.lemmas.List.Elements.{All-drop, All-take, All-weaker}
-use Rattle.tk_lemmas.proofs.Lists.{All_at, All_one as all_single}
+use Rattle.tk_base.proofs.Lists.{All_at, All_one as all_single}
 use Rattle.tk_ids.specs.declared.descriptors.Descriptor.{Descriptor}
 use Rattle.tk_events.specs.declared.events.Event.{Event}
-use Rattle.tk_plan_units.specs.declared.trees.nodes.Node.{Node}
-use Rattle.tk_plan_units.specs.declared.trees.nodes.NumberedNode.{NumberedNode}
-use Rattle.tk_plan_units.specs.Cutting.{Part, Piece, from_each, moves_of, on_spine, parts}
-use Rattle.tk_plan_units.specs.Cutting.{parts_below, piece, pieces_of, spine_begins, spine_ends}
-use Rattle.tk_plan_units.specs.Cutting.{whole_unit}
-use Rattle.tk_plan_units.specs.Numbers.{IsNumbered, in_order}
-use Rattle.tk_plan_units.specs.Planned.{Outline}
-use Rattle.tk_plan_units.specs.Trees.{Forest, IsForest, IsSplit, Tree, flat, flats, forest, more}
-use Rattle.tk_plan_units.specs.Trees.{no_trees, tree, tree_of}
-use Rattle.tk_plan_units.proofs.Ordering.{all_numbered}
-use Rattle.tk_plan_units.proofs.Parting.{all_back, all_prefix}
+use Rattle.tk_plan.specs.declared.trees.nodes.Node.{Node}
+use Rattle.tk_plan.specs.declared.trees.nodes.NumberedNode.{NumberedNode}
+use Rattle.tk_plan.specs.Cutting.{Part, Piece, from_each, moves_of, on_spine, parts}
+use Rattle.tk_plan.specs.Cutting.{parts_below, piece, pieces_of, spine_begins, spine_ends}
+use Rattle.tk_plan.specs.Cutting.{whole_unit}
+use Rattle.tk_plan.specs.Numbers.{IsNumbered, in_order}
+use Rattle.tk_plan.specs.Planned.{Outline}
+use Rattle.tk_plan.specs.Trees.{Forest, IsForest, IsSplit, Tree, flat, flats, forest, more}
+use Rattle.tk_plan.specs.Trees.{no_trees, tree, tree_of}
+use Rattle.tk_plan.proofs.NodeOrder.{all_numbered}
+use Rattle.tk_plan.proofs.ListParts.{all_back, all_prefix}
 use Rattle.tk_engine_hierarchical.specs.StaticSteps.{FitsNode, FitsPlan}
 use Rattle.tk_engine_hierarchical.specs.steps.StaticSteps.{MayStepAs}
 use Rattle.tk_engine_unit_events.specs.declared.outcomes.Outcome.{Outcome}

@@ -8,13 +8,13 @@ use Rattle.tk_ids.specs.declared.descriptors.Descriptor.{Descriptor}
 use Rattle.tk_events.specs.declared.events.Event.{Event}
 use Rattle.tk_events.specs.declared.kinds.Kind.TheVariants.{Finished, Skipped}
 use Rattle.tk_events.specs.declared.payloads.Payload.TheVariants as payloads
-use Rattle.tk_plan_units.specs.declared.trees.nodes.Node.{Node}
-use Rattle.tk_plan_units.specs.declared.trees.nodes.NumberedNode.{NumberedNode}
-use Rattle.tk_plan_units.specs.Cutting.{Piece, pieces_of}
-use Rattle.tk_plan_units.specs.Planned.{Outline}
-use Rattle.tk_plan_units.specs.Trees.{IsSplit, forest, grow, no_trees, tree_of}
+use Rattle.tk_plan.specs.declared.trees.nodes.Node.{Node}
+use Rattle.tk_plan.specs.declared.trees.nodes.NumberedNode.{NumberedNode}
+use Rattle.tk_plan.specs.Cutting.{Piece, pieces_of}
+use Rattle.tk_plan.specs.Planned.{Outline}
+use Rattle.tk_plan.specs.Trees.{IsSplit, forest, grow, no_trees, tree_of}
 use Rattle.tk_queue_session.specs.Senders.{SenderView}
-use Rattle.tk_record_columns.specs.Recorded.{Recorded}
+use Rattle.tk_record.specs.Recorded.{Recorded}
 use Rattle.tk_engine_runs.specs.Run.{IsRun}
 use Rattle.tk_engine_execute.specs.Engines.{ExtendsAs}
 use Rattle.tk_engine_lifecycle.specs.Units.{KeepsAround, UnitsKeepLifecycle}

@@ -1,13 +1,13 @@
 -- What the record of a run of a hierarchical engine says.
 use Rattle.std.specs.Prelude.{◌≡◌, ◌⊎◌, ℕ, ◌<◌, List, [], ◌∷◌, ◌++◌, All, length}
-use Rattle.tk_plan_units.specs.Cutting.{units_of}
-use Rattle.tk_plan_units.specs.Planned.{Outline}
-use Rattle.tk_plan_units.specs.Trees.{forest}
+use Rattle.tk_plan.specs.Cutting.{units_of}
+use Rattle.tk_plan.specs.Planned.{Outline}
+use Rattle.tk_plan.specs.Trees.{forest}
 use Rattle.tk_engine_runs.specs.Run.{IsRun}
 use Rattle.tk_events.specs.declared.events.Event.{Event}
 use Rattle.tk_events.specs.declared.kinds.Kind.TheVariants.{Finished, Skipped, Started}
-use Rattle.tk_record_columns.specs.Mixing.{of_worker}
-use Rattle.tk_record_columns.specs.Recorded.{Recorded}
+use Rattle.tk_record.specs.Mixing.{of_worker}
+use Rattle.tk_record.specs.Recorded.{Recorded}
 use Rattle.tk_query_lifecycle.specs.KeepsLifecycle.{steps_of}
 use Rattle.tk_queue_session.specs.Emission.{registrations}
 use Rattle.tk_engine_unit_events.specs.Covered.{IsBelowSkipped}

@@ -1,6 +1,6 @@
 -- Which records are runs of an engine of tests by this many workers.
 use Rattle.std.specs.Prelude.{ℕ}
-use Rattle.tk_record_columns.specs.Recorded.{Recorded}
+use Rattle.tk_record.specs.Recorded.{Recorded}
 use Rattle.tk_engine_runs.specs.Run.{IsRun}
 use Rattle.tk_engine_hierarchical.specs.Laws.{TestRules, may_of}
 use Rattle.tk_engine_unit_events.specs.Shapes.{ShapeView, frame}

@@ -5,9 +5,9 @@ use Rattle.tk_events.specs.declared.events.Event.{Event}
 use Rattle.tk_events.specs.declared.kinds.Kind.TheVariants.{Finished, Skipped, Started}
 use Rattle.tk_events.specs.declared.payloads.Payload.{Payload}
 use Rattle.tk_events.specs.declared.payloads.Payload.TheVariants as payloads
-use Rattle.tk_plan_units.specs.declared.trees.nodes.Node.{Node}
-use Rattle.tk_plan_units.specs.Numbers.{in_order}
-use Rattle.tk_plan_units.specs.Planned.{Outline}
+use Rattle.tk_plan.specs.declared.trees.nodes.Node.{Node}
+use Rattle.tk_plan.specs.Numbers.{in_order}
+use Rattle.tk_plan.specs.Planned.{Outline}
 use Rattle.tk_engine_unit_events.specs.Endings.{HasOutcome, IsStaticTest}
 use Rattle.tk_engine_unit_events.specs.declared.outcomes.Outcome.{Outcome}
 

@@ -8,10 +8,10 @@ use Rattle.tk_events.specs.declared.kinds.Kind.TheVariants.{File, Finished, Repo
 use Rattle.tk_events.specs.declared.kinds.Kind.TheVariants.{Skipped, Started}
 use Rattle.tk_events.specs.declared.payloads.Payload.{Payload}
 use Rattle.tk_events.specs.declared.payloads.Payload.TheVariants as payloads
-use Rattle.tk_plan_units.specs.declared.trees.nodes.Node.{Node}
-use Rattle.tk_plan_units.specs.Cutting.{Piece, pieces_of}
-use Rattle.tk_plan_units.specs.Planned.{Outline}
-use Rattle.tk_plan_units.specs.Trees.{Forest, Tree, forest, more, no_trees, tree}
+use Rattle.tk_plan.specs.declared.trees.nodes.Node.{Node}
+use Rattle.tk_plan.specs.Cutting.{Piece, pieces_of}
+use Rattle.tk_plan.specs.Planned.{Outline}
+use Rattle.tk_plan.specs.Trees.{Forest, Tree, forest, more, no_trees, tree}
 use Rattle.tk_queue_session.specs.Emission.{registrations}
 use Rattle.tk_queue_session.specs.Senders.{SenderView}
 use Rattle.tk_engine_execute.specs.Engines.{Extends}

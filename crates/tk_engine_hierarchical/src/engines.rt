@@ -1,6 +1,6 @@
 //! The engine of a plan whose tests have bodies, as `execute` takes it.
 ghost use Rattle.std.specs.Prelude.{◌≡◌, IfOk};
-ghost use Rattle.tk_plan_units.specs.Planned.{IsPlanned};
+ghost use Rattle.tk_plan.specs.Planned.{IsPlanned};
 ghost use Rattle.tk_engine_lifecycle.specs.Units.{KeepsAround};
 ghost use Rattle.tk_engine_unit_events.specs.Shapes.{frame, HavePlaces};
 
@@ -9,12 +9,12 @@ use crate::tests::Tests;
 use std::alloc::{AllocError, Global};
 use std::marker::Brand;
 use std::sync::{Arc, Wait};
-use tk_book::{BookSeat, Need};
 use tk_engine_execute::{Engine, Sink, UnitFault};
 use tk_engine_unit_events::{Lease, Shape};
 use tk_events::Event;
 use tk_ids::Table;
-use tk_plan_units::Plan;
+use tk_locks::{BookSeat, Need};
+use tk_plan::Plan;
 
 /// The engine of a plan whose tests have bodies: it starts, runs and finishes them.
 ///
@@ -49,7 +49,7 @@ impl<T> Hierarchical<T> {
 }
 
 impl<T: Tests + Sync> Engine for Hierarchical<T> {
-    ghost use Rattle.tk_plan_units.specs.Masks.{need_of};
+    ghost use Rattle.tk_plan.specs.Masks.{need_of};
     ghost use Rattle.tk_engine_hierarchical.specs.Laws.{may_of, test_rules};
     ghost use Rattle.tk_engine_unit_events.specs.Shapes.{frame};
 

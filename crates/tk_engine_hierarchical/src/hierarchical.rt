@@ -4,8 +4,8 @@ ghost use Rattle.tk_engine_execute.specs.declared.engines.UnitFault.{UnitFault};
 ghost use Rattle.tk_engine_execute.specs.declared.engines.UnitFault.TheVariants.{Own};
 ghost use Rattle.tk_engine_execute.specs.Engines.{Extends, IsSameSender};
 ghost use Rattle.tk_events.specs.declared.events.Event.{Event};
-ghost use Rattle.tk_plan_units.specs.Cutting.{units_of};
-ghost use Rattle.tk_plan_units.specs.Trees.{IsForest, forest, tree_of};
+ghost use Rattle.tk_plan.specs.Cutting.{units_of};
+ghost use Rattle.tk_plan.specs.Trees.{IsForest, forest, tree_of};
 ghost use Rattle.tk_engine_unit_events.specs.Shapes.{count_units, frame, keys_in};
 ghost use Rattle.tk_engine_unit_events.specs.Standing.{IsComplete};
 ghost use Rattle.tk_engine_hierarchical.specs.StaticSteps.{FitsPlan};
@@ -18,7 +18,7 @@ use std::alloc::Global;
 use std::sync::Wait;
 use tk_engine_execute::{OUT_OF_ORDER, Sink, UnitFault};
 use tk_engine_unit_events::{Lease, Shape, UnitEvents, UnitRun};
-use tk_plan_units::{NumberedNode, Plan};
+use tk_plan::{NumberedNode, Plan};
 
 // Runs a node that isn't skipped, and what stands below it, from its start to its finish.
 #[cycle(running)]

@@ -1,7 +1,7 @@
 //! The laws of engines whose tests have bodies.
 ghost use Rattle.tk_query_lifecycle.specs.KeepsLifecycle.{KeepsLifecycle};
 ghost use Rattle.tk_query_lifecycle.specs.NeverRan.{EachChildRuns};
-ghost use Rattle.tk_engine_laws.specs.Laws.{IsKept};
+ghost use Rattle.tk_plan_laws.specs.Laws.{IsKept};
 ghost use Rattle.tk_engine_hierarchical.specs.Laws.{FollowsPlan, HasOutcomes, HaveTurns, IsRunOf, UnitsNest, UnitsRanTrees, test_rules};
 
 use crate::engines::Hierarchical;

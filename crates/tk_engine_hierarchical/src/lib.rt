@@ -14,5 +14,3 @@ pub use engines::Hierarchical;
 pub use reporters::Reporter;
 pub use runs::run_tests;
 pub use tests::{Body, Tests};
-pub use tk_engine_execute::{OUT_OF_ORDER, TWICE};
-pub use tk_engine_unit_events::{Outcome, UnitRun};

@@ -18,7 +18,7 @@ use tk_engine_execute::{Sink, UnitFault};
 use tk_engine_unit_events::{Child, Outcome, UnitBody, UnitEvents, UnitRun};
 use tk_events::{Kind, Pairs, Payload, try_clone_message};
 use tk_ids::Text;
-use tk_plan_units::{Node, NumberedNode};
+use tk_plan::{Node, NumberedNode};
 
 /// The outcome of a test that ran, and the stamp that it set, where it did.
 #[derive(Drop)]

@@ -4,7 +4,7 @@ ghost use Rattle.tk_queue_session.specs.Limits.{capacity_of};
 ghost use Rattle.tk_query_lifecycle.specs.KeepsLifecycle.{KeepsLifecycle};
 ghost use Rattle.tk_engine_execute.specs.Results.{IsTallied};
 ghost use Rattle.tk_engine_execute.specs.declared.engines.UnitFault.{UnitFault};
-ghost use Rattle.tk_engine_laws.specs.Laws.{IsKept};
+ghost use Rattle.tk_plan_laws.specs.Laws.{IsKept};
 ghost use Rattle.tk_engine_hierarchical.specs.Laws.{FollowsPlan, HasOutcomes, HaveTurns, IsRunOf};
 ghost use Rattle.tk_engine_hierarchical.specs.Laws.{UnitsNest, UnitsRanTrees, test_rules};
 ghost use Rattle.tk_engine_hierarchical.specs.Runs.{IsRunBy};
@@ -16,8 +16,8 @@ use crate::tests::Tests;
 use std::alloc::Global;
 use std::sync::Wait;
 use std::thread::Threads;
+use tk_base::MAX_WORKERS;
 use tk_engine_execute::{Results, RunFault, execute};
-use tk_events::MAX_WORKERS;
 use tk_queue_session::MAX_CAPACITY;
 
 // Shows what holds of the record of each run of the engine.

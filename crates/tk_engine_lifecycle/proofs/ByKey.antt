@@ -6,7 +6,7 @@ use Rattle.std.specs.Option.{option_or}
 use Rattle.tk_engine_lifecycle.proofs.Splits.{unfiltered}
 use Rattle.std.proofs.lemmas.List.{map-append}
 use Rattle.std.proofs.lemmas.List.Elements.{filter-append}
-use Rattle.tk_lemmas.proofs.Options.{option_or_cases}
+use Rattle.tk_base.proofs.Options.{option_or_cases}
 use Rattle.tk_ids.specs.IdText.{SegmentView}
 use Rattle.tk_ids.specs.declared.descriptors.Descriptor.{Descriptor}
 use Rattle.tk_events.specs.declared.kinds.Kind.{Kind}
@@ -14,8 +14,8 @@ use Rattle.tk_events.specs.declared.kinds.Kind.TheVariants.{Dynamic, Started, Fi
 use Rattle.tk_events.specs.declared.events.Event.{Event}
 use Rattle.tk_events.specs.declared.events.Entry.{Entry}
 use Rattle.tk_events.specs.Event.{kind_code}
-use Rattle.tk_record_columns.specs.Recorded.{Recorded}
-use Rattle.tk_record_columns.specs.Entries.{of_kind, desc, desc_in, described, registered}
+use Rattle.tk_record.specs.Recorded.{Recorded}
+use Rattle.tk_record.specs.Entries.{of_kind, desc, desc_in, described, registered}
 use Rattle.tk_queue_session.specs.Emission.{entries_by}
 use Rattle.tk_query_lifecycle.specs.Lifecycle.{HasId, has_event, is_event, runs}
 use Rattle.tk_query_lifecycle.specs.KeepsLifecycle.{is_step, steps_of}

@@ -1,13 +1,13 @@
 -- A run of an engine whose units keep the lifecycle keeps it.
 use Rattle.std.proofs.Common.{◌≡◌, ◌<◌, ◌==◌, ℕ, ◌⊎◌, inl, inr, ⊎_elim, true, List, [], ◌∷◌, ◌++◌, length, filter, flat_map, take, Some, slice_get, refl, sym, ap, ap₂, ◌∙◌, subst, append_assoc, arith, tests}
 use Rattle.std.proofs.lemmas.List.{map-append}
-use Rattle.tk_lemmas.proofs.Lists.{nil_left, nil_right, no_split}
+use Rattle.tk_base.proofs.Lists.{nil_left, nil_right, no_split}
 use Rattle.tk_ids.specs.IdText.{SegmentView, parent_of}
 use Rattle.tk_ids.specs.declared.descriptors.Descriptor.{Descriptor}
 use Rattle.tk_events.specs.declared.events.Event.{Event}
 use Rattle.tk_events.specs.declared.events.Entry.{Entry}
-use Rattle.tk_record_columns.specs.Recorded.{Recorded}
-use Rattle.tk_record_columns.specs.Mixing.{of_worker}
+use Rattle.tk_record.specs.Recorded.{Recorded}
+use Rattle.tk_record.specs.Mixing.{of_worker}
 use Rattle.tk_queue_session.specs.Emission.{entries_by, entry_by}
 use Rattle.tk_query_lifecycle.specs.Lifecycle.{HasId, KnowsId, runs}
 use Rattle.tk_query_lifecycle.specs.KeepsLifecycle.{KeepsLifecycle}
@@ -16,8 +16,8 @@ use Rattle.tk_engine_lifecycle.specs.Units.{Frame, run_alone}
 use Rattle.tk_engine_lifecycle.proofs.Splits.{Joined, joined, split_get, split_take, unfiltered}
 use Rattle.tk_engine_lifecycle.proofs.ByKey.{events, events-append, events_by, has_run, hits, hits-append, same_id, same_runs}
 use Rattle.tk_engine_lifecycle.proofs.Turns.{Turn, emitted, is_by}
-use Rattle.tk_engine_lifecycle.proofs.Apart.{Hit, KeptRun, hit_or_none, own_first}
-use Rattle.tk_engine_lifecycle.proofs.Only.{hits_of, none_common}
+use Rattle.tk_engine_lifecycle.proofs.SeparateTurns.{Hit, KeptRun, hit_or_none, own_first}
+use Rattle.tk_engine_lifecycle.proofs.KeysOfOneTurn.{hits_of, none_common}
 use Rattle.tk_engine_lifecycle.proofs.Prefixes.{StartsTo, none_in_start, own_in_start}
 
 -- ---- what is asked of an entry after others

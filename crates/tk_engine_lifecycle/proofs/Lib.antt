@@ -3,12 +3,12 @@ pub mod Splits
 pub mod ByKey
 pub mod Registered
 pub mod Turns
-pub mod Apart
-pub mod Only
+pub mod SeparateTurns
+pub mod KeysOfOneTurn
 pub mod Prefixes
 pub mod Kept
-pub mod Whole
-pub mod Closing
-pub mod Going
+pub mod WholeRuns
+pub mod UnitEnds
+pub mod UnitProgress
 pub mod Steps
 pub mod Samples

@@ -4,16 +4,16 @@ use Rattle.std.proofs.Common.{◌∙◌, arith, tests}
 use Rattle.std.proofs.lemmas.Bool.{cases_Bool}
 use Rattle.std.proofs.lemmas.List.Elements.{filter-append}
 use Rattle.std.proofs.lemmas.Grind.{flat_map-append}
-use Rattle.tk_lemmas.proofs.Lists.{nil_left, nil_right}
+use Rattle.tk_base.proofs.Lists.{nil_left, nil_right}
 use Rattle.tk_events.specs.declared.events.Event.{Event}
 use Rattle.tk_events.specs.declared.events.Entry.{Entry}
-use Rattle.tk_record_columns.specs.Mixing.{of_worker}
+use Rattle.tk_record.specs.Mixing.{of_worker}
 use Rattle.tk_queue_session.proofs.ReceiverSteps.{of_worker-append}
 use Rattle.tk_engine_lifecycle.specs.Units.{Frame}
 use Rattle.tk_engine_lifecycle.proofs.ByKey.{events, hits, hits-append}
 use Rattle.tk_engine_lifecycle.proofs.Turns.{Turn, emitted, is_by}
-use Rattle.tk_engine_lifecycle.proofs.Apart.{Hit, KeptRun, other_first, own_first}
-use Rattle.tk_engine_lifecycle.proofs.Only.{drop_first, hits_of, none_after, none_before}
+use Rattle.tk_engine_lifecycle.proofs.SeparateTurns.{Hit, KeptRun, other_first, own_first}
+use Rattle.tk_engine_lifecycle.proofs.KeysOfOneTurn.{drop_first, hits_of, none_after, none_before}
 
 hits_one : (key : ℕ) (e : Event) (es : List Event) → hits key (e ∷ es) ≡ hits key (e ∷ []) ++ hits key es
 hits_one key e es = hits-append key (e ∷ []) es

@@ -8,11 +8,11 @@ use Rattle.tk_events.specs.declared.kinds.Kind.TheVariants.{Dynamic}
 use Rattle.tk_events.specs.declared.events.Entry.{Entry}
 use Rattle.tk_ids.specs.declared.tables.TheConstants.{MAX_DESCRIPTORS}
 use Rattle.tk_events.specs.Registration.{registered_key}
-use Rattle.tk_record_columns.specs.Recorded.{Recorded, without_entries}
-use Rattle.tk_record_columns.specs.Entries.{of_kind, registers, with_entry}
-use Rattle.tk_record_columns.specs.Record.{AreAppended, IsRecord, fault_of, is_known, is_next}
-use Rattle.tk_record_columns.specs.declared.records.AppendFault.{AppendFault}
-use Rattle.tk_record_columns.specs.declared.records.AppendFault.TheVariants.{UnknownKey}
+use Rattle.tk_record.specs.Recorded.{Recorded, without_entries}
+use Rattle.tk_record.specs.Entries.{of_kind, registers, with_entry}
+use Rattle.tk_record.specs.Record.{AreAppended, IsRecord, fault_of, is_known, is_next}
+use Rattle.tk_record.specs.declared.records.AppendFault.{AppendFault}
+use Rattle.tk_record.specs.declared.records.AppendFault.TheVariants.{UnknownKey}
 use Rattle.tk_engine_lifecycle.proofs.ByKey.{is_dynamic}
 
 no_fault : (k : Bool) (r : Recorded) (e : Entry) (rest : Option AppendFault) → (if not k then Some (UnknownKey e) else rest) ≡ None → k ≡ true

@@ -9,18 +9,18 @@ use Rattle.tk_events.specs.declared.events.Entry.{Entry}
 use Rattle.tk_events.specs.Event.{is_lawful, kind_code}
 use Rattle.tk_events.specs.declared.kinds.Kind.{Kind}
 use Rattle.tk_events.specs.declared.kinds.Kind.TheVariants.{Dynamic, Started, Finished}
-use Rattle.tk_record_columns.specs.Recorded.{Recorded}
+use Rattle.tk_record.specs.Recorded.{Recorded}
 use Rattle.tk_queue_session.specs.Emission.{entry_by}
 use Rattle.tk_query_lifecycle.specs.Lifecycle.{HasId, KnowsId, first_entries}
 use Rattle.tk_query_lifecycle.specs.KeepsLifecycle.{IsWhole, steps_of}
-use Rattle.tk_record_columns.specs.Entries.{with_entry}
+use Rattle.tk_record.specs.Entries.{with_entry}
 use Rattle.tk_engine_execute.specs.Engines.{IsStaticEvent}
 use Rattle.tk_engine_lifecycle.specs.Units.{Frame, KeepsAlone, KeepsAround, UnitsKeepLifecycle, run_alone}
 use Rattle.tk_engine_lifecycle.proofs.States.{state}
 use Rattle.tk_engine_lifecycle.specs.UnderWay.{IsUnderWay, MayBegin, so_far}
 use Rattle.tk_engine_lifecycle.proofs.ByKey.{from_table, one_id}
 use Rattle.tk_engine_lifecycle.proofs.Steps.{begins, finishes, starts}
-use Rattle.tk_engine_lifecycle.proofs.Closing.{closes}
+use Rattle.tk_engine_lifecycle.proofs.UnitEnds.{closes}
 
 -- a root and a test below it, and the payloads of a start and of a finish
 module _ (root test : Descriptor) (engine one : SegmentView) (is_root : root.id ≡ engine ∷ []) (is_test : test.id ≡ engine ∷ (one ∷ []))

@@ -3,8 +3,8 @@ use Rattle.std.proofs.Common.{◌≡◌, ◌≢◌, ◌<◌, ◌-◌, ◌==◌, 
 use Rattle.std.specs.List.{list_any}
 use Rattle.std.specs.Option.{option_or}
 use Rattle.std.proofs.lemmas.Option.{none-some}
-use Rattle.tk_lemmas.proofs.Lists.{no_split}
-use Rattle.tk_lemmas.proofs.Options.{option_or-assoc}
+use Rattle.tk_base.proofs.Lists.{no_split}
+use Rattle.tk_base.proofs.Options.{option_or-assoc}
 use Rattle.tk_ids.specs.IdText.{SegmentView, parent_of}
 use Rattle.tk_ids.specs.declared.descriptors.Descriptor.{Descriptor}
 use Rattle.tk_events.specs.declared.events.Event.{Event}
@@ -13,8 +13,8 @@ use Rattle.tk_events.specs.declared.kinds.Kind.{Kind}
 use Rattle.tk_events.specs.declared.kinds.Kind.TheVariants.{Started, Finished, Skipped, Dynamic, Reporting, File}
 use Rattle.tk_events.specs.Event.{kind_code}
 use Rattle.tk_events.specs.declared.payloads.Payload.TheVariants.{Described}
-use Rattle.tk_record_columns.specs.Recorded.{Recorded}
-use Rattle.tk_record_columns.specs.Entries.{desc, desc_in, described, registered, with_entry}
+use Rattle.tk_record.specs.Recorded.{Recorded}
+use Rattle.tk_record.specs.Entries.{desc, desc_in, described, registered, with_entry}
 use Rattle.tk_queue_session.specs.Emission.{entries_by, entry_by}
 use Rattle.tk_query_lifecycle.specs.Lifecycle.{HasId, runs}
 use Rattle.tk_query_lifecycle.specs.KeepsLifecycle.{IsWhole, is_step, steps_of}
@@ -23,11 +23,11 @@ use Rattle.tk_engine_lifecycle.proofs.States.{begins_again, registered_again, st
 use Rattle.tk_engine_lifecycle.specs.UnderWay.{AreNested, HasRunningParentIn, IsOneOf, IsUnderWay, MayBegin, MayBeRegistered, MayFollow, so_far}
 use Rattle.tk_engine_lifecycle.proofs.Splits.{split_take}
 use Rattle.tk_engine_lifecycle.proofs.ByKey.{desc_in-append, events, events_by, has_event_is, has_kind, has_run, hits, hits-append, kinds, later_id, one_id, same_runs}
-use Rattle.tk_engine_lifecycle.proofs.Apart.{Hit, hit_or_none}
+use Rattle.tk_engine_lifecycle.proofs.SeparateTurns.{Hit, hit_or_none}
 use Rattle.tk_engine_lifecycle.proofs.Kept.{hit_before, start_events}
-use Rattle.tk_engine_lifecycle.proofs.Closing.{closes, common_not_own, no_own, own_id}
+use Rattle.tk_engine_lifecycle.proofs.UnitEnds.{closes, common_not_own, no_own, own_id}
 use Rattle.tk_engine_lifecycle.specs.Laws.{Begins, Closes, Finishes, Registers, Reports, Skips, Starts}
-use Rattle.tk_engine_lifecycle.proofs.Going.{each_more, kept_id, nested_more, other_steps, own_more, own_steps, so_far_more, steps_by}
+use Rattle.tk_engine_lifecycle.proofs.UnitProgress.{each_more, kept_id, nested_more, other_steps, own_more, own_steps, so_far_more, steps_by}
 
 -- ---- whether a key runs, by its steps
 

@@ -4,10 +4,10 @@ use Rattle.tk_ids.specs.IdText.{SegmentView, parent_of}
 use Rattle.tk_ids.specs.declared.descriptors.Descriptor.{Descriptor}
 use Rattle.tk_events.specs.declared.events.Event.{Event}
 use Rattle.tk_events.specs.declared.events.Entry.{Entry}
-use Rattle.tk_record_columns.specs.Recorded.{Recorded}
+use Rattle.tk_record.specs.Recorded.{Recorded}
 use Rattle.tk_queue_session.specs.Emission.{entries_by, entry_by}
 use Rattle.tk_query_lifecycle.specs.Lifecycle.{HasId, KnowsId, runs}
-use Rattle.tk_record_columns.specs.Entries.{with_entry, desc}
+use Rattle.tk_record.specs.Entries.{with_entry, desc}
 use Rattle.tk_events.specs.declared.kinds.Kind.{Kind}
 use Rattle.tk_events.specs.declared.kinds.Kind.TheVariants.{Started}
 use Rattle.tk_query_lifecycle.specs.KeepsLifecycle.{IsWhole, steps_of}

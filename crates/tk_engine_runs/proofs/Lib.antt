@@ -1,3 +1,3 @@
-pub mod Turning
-pub mod Drawing
+pub mod SeatSums
+pub mod ClaimSteps
 pub mod Workers

@@ -1,6 +1,6 @@
 -- What a clause sees of a claim and of its seats.
 use Rattle.std.specs.Prelude.{◌≡◌, ◌^◌, ◌<◌, ◌≤◌, [], cond}
-use Rattle.tk_limits.specs.declared.limits.TheConstants.{MAX_WORKERS}
+use Rattle.tk_base.specs.declared.limits.TheConstants.{MAX_WORKERS}
 use Rattle.atomic_table.specs.Seated.{TableId}
 use Rattle.tk_engine_runs.specs.declared.claim_rules.ClaimLimits.{ClaimLimits}
 use Rattle.tk_engine_runs.specs.declared.claims.Claim.TheInside as claim

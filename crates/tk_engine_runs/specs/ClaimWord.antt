@@ -4,7 +4,7 @@ use Rattle.std.specs.Prelude.{sum_by, All}
 use mathlib.Core.Option.{some}
 use lib.ListN.{get_elem?}
 use Rattle.atomic_table.specs.Table.{State, Me, Step}
-use Rattle.tk_limits.specs.declared.limits.TheConstants.{MAX_WORKERS}
+use Rattle.tk_base.specs.declared.limits.TheConstants.{MAX_WORKERS}
 use Rattle.tk_engine_runs.specs.declared.claim_rules.ClaimLimits.{ClaimLimits}
 use Rattle.tk_engine_runs.specs.declared.claim_rules.Drawn.{Drawn}
 use Rattle.tk_engine_runs.specs.Claims.{times, once_below}

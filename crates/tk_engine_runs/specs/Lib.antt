@@ -1,4 +1,4 @@
-pub use Rattle.tk_record_columns.specs.Mixing
+pub use Rattle.tk_record.specs.Mixing
 pub use Rattle.tk_queue_session.specs.Emission
 pub mod Claims
 pub mod ClaimWord

@@ -2,7 +2,7 @@
 use Rattle.std.specs.Prelude.{◌≡◌, ℕ, List, ◌++◌}
 use Rattle.tk_events.specs.declared.events.Event.{Event}
 use Rattle.tk_events.specs.declared.events.Entry.{Entry}
-use Rattle.tk_record_columns.specs.Mixing.{IsWorkerOf, of_worker, Mix}
+use Rattle.tk_record.specs.Mixing.{IsWorkerOf, of_worker, Mix}
 use Rattle.tk_queue_session.specs.Emission.{entries_by}
 
 -- worker 0 has what came before and after, and each of the others its list of those that are

@@ -12,7 +12,7 @@ use std::alloc::{AllocError, Global};
 use std::error::Error;
 use std::fmt;
 use std::marker::Model;
-use tk_limits::MAX_WORKERS;
+use tk_base::MAX_WORKERS;
 
 /// The numbers below a limit, which several threads draw from one word, each number once.
 ///

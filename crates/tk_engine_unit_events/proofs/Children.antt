@@ -11,7 +11,7 @@ use Rattle.tk_ids.specs.declared.descriptors.Descriptor.{Descriptor}
 use Rattle.tk_ids.specs.Table.{HasId as TableHasId}
 use Rattle.tk_events.specs.declared.events.Event.{Event}
 use Rattle.tk_events.specs.declared.kinds.Kind.TheVariants.{Skipped, Started}
-use Rattle.tk_record_columns.specs.Entries.{desc}
+use Rattle.tk_record.specs.Entries.{desc}
 use Rattle.tk_queue_session.specs.Registering.{IsRegisteredAs, RegisterRequest, child_of}
 use Rattle.tk_queue_session.specs.Registering.{registration}
 use Rattle.tk_queue_session.specs.Senders.{SenderView, record_of_sender, sends}
@@ -19,7 +19,7 @@ use Rattle.tk_query_lifecycle.specs.Lifecycle.{HasId}
 use Rattle.tk_engine_lifecycle.specs.Units.{Frame}
 use Rattle.tk_engine_lifecycle.specs.UnderWay.{so_far}
 use Rattle.tk_engine_lifecycle.proofs.ByKey.{one_id}
-use Rattle.tk_engine_lifecycle.proofs.Going.{kept_id}
+use Rattle.tk_engine_lifecycle.proofs.UnitProgress.{kept_id}
 use Rattle.tk_engine_unit_events.specs.Emitting.{IsEmitting, since}
 use Rattle.tk_ids.specs.IdText.{IsBelow}
 use Rattle.tk_engine_unit_events.specs.Events.{HaveIds, IsNesting, IsRunning, progress}
@@ -27,16 +27,16 @@ use Rattle.tk_engine_unit_events.specs.RegisteredIds.{is_registered}
 use Rattle.tk_engine_unit_events.specs.declared.running_keys.RunningKey.{RunningKey}
 use Rattle.tk_engine_unit_events.specs.Running.{RunningId, keys_of, with_id, with_ids}
 use Rattle.tk_engine_unit_events.specs.Shapes.{ShapeView, frame}
-use Rattle.tk_engine_unit_events.proofs.Nesting.{Adds, IsNext}
-use Rattle.tk_engine_unit_events.proofs.Nesting.{nesting_plain, nesting_start}
-use Rattle.tk_engine_unit_events.proofs.Nesting.{within_all}
+use Rattle.tk_engine_unit_events.proofs.KeySpans.{Adds, IsNext}
+use Rattle.tk_engine_unit_events.proofs.KeySpans.{nesting_plain, nesting_start}
+use Rattle.tk_engine_unit_events.proofs.KeySpans.{within_all}
 use Rattle.tk_engine_unit_events.proofs.Owned.{owner_child}
 use Rattle.tk_engine_unit_events.proofs.Emitted.{Registered, Registering}
 use Rattle.tk_engine_unit_events.proofs.Emitted.{emitted_registration}
 use Rattle.tk_engine_unit_events.proofs.Emitted.{registered_skip, registered_start}
 use Rattle.tk_engine_unit_events.proofs.Emitted.{sender_later, sender_now}
-use Rattle.tk_engine_unit_events.proofs.Running.{adds, dynamic_is_not, innermost_is, later_ids}
-use Rattle.tk_engine_unit_events.proofs.Running.{nests_more, same_more, skip_is_not}
+use Rattle.tk_engine_unit_events.proofs.UnitStates.{adds, dynamic_is_not, innermost_is, later_ids}
+use Rattle.tk_engine_unit_events.proofs.UnitStates.{nests_more, same_more, skip_is_not}
 
 -- a unit after it registered a descriptor below the innermost running key
 pub record HasRegistered (f : Frame) (unit : ℕ) (start now : SenderView) (running : List RunningId)

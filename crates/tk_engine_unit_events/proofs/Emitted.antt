@@ -15,8 +15,8 @@ use Rattle.tk_events.specs.declared.kinds.Kind.{Kind}
 use Rattle.tk_events.specs.declared.kinds.Kind.TheVariants.{Started, Finished, Skipped, Dynamic}
 use Rattle.tk_events.specs.Event.{kind_code}
 use Rattle.tk_events.specs.declared.payloads.Payload.TheVariants.{Described}
-use Rattle.tk_record_columns.specs.Recorded.{Recorded}
-use Rattle.tk_record_columns.specs.Entries.{desc, desc_in, described, registered, with_entry}
+use Rattle.tk_record.specs.Recorded.{Recorded}
+use Rattle.tk_record.specs.Entries.{desc, desc_in, described, registered, with_entry}
 use Rattle.tk_queue_session.specs.Emission.{entries_by, entry_by}
 use Rattle.tk_query_lifecycle.specs.Lifecycle.{HasId}
 use Rattle.tk_query_lifecycle.specs.KeepsLifecycle.{is_step, steps_of}
@@ -27,10 +27,10 @@ use Rattle.tk_engine_lifecycle.proofs.States.{state}
 use Rattle.tk_engine_lifecycle.specs.UnderWay.{IsOneOf, IsUnderWay, MayBegin, MayBeRegistered}
 use Rattle.tk_engine_lifecycle.specs.UnderWay.{so_far}
 use Rattle.tk_engine_unit_events.specs.Emitting.{IsEmitting, Progress, since}
-use Rattle.tk_lemmas.proofs.Lists.{get_below}
-use Rattle.tk_lemmas.proofs.Options.{option_or-none, option_or-assoc, option_or_cases}
+use Rattle.tk_base.proofs.Lists.{get_below}
+use Rattle.tk_base.proofs.Options.{option_or-none, option_or-assoc, option_or_cases}
 use Rattle.tk_engine_lifecycle.proofs.ByKey.{desc_in-append, later_id, one_id, from_table}
-use Rattle.tk_engine_lifecycle.proofs.Going.{other_steps, so_far_more}
+use Rattle.tk_engine_lifecycle.proofs.UnitProgress.{other_steps, so_far_more}
 use Rattle.tk_engine_lifecycle.proofs.Steps.{begins, begins_registered, dynamic_key_fresh}
 use Rattle.tk_engine_lifecycle.proofs.Steps.{dynamic_no_step, finishes, its_own, law_closes}
 use Rattle.tk_engine_lifecycle.proofs.Steps.{no_step_added, or_none, registers_below, reports}

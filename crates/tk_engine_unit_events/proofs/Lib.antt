@@ -1,11 +1,11 @@
 mod Children
 pub mod Emitted
-pub mod Nesting
+pub mod KeySpans
 mod Outer
 pub mod Owned
 pub mod Played
 mod Registered
-pub mod Running
+pub mod UnitStates
 pub mod Shaped
 mod Reversed
 mod Taken

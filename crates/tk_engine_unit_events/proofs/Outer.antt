@@ -10,7 +10,7 @@ use Rattle.tk_ids.specs.IdText.{IsBelow, SegmentView}
 use Rattle.tk_events.specs.declared.events.Event.{Event}
 use Rattle.tk_events.specs.declared.kinds.Kind.{Kind}
 use Rattle.tk_events.specs.declared.kinds.Kind.TheVariants.{Finished, Started}
-use Rattle.tk_record_columns.specs.Recorded.{Recorded}
+use Rattle.tk_record.specs.Recorded.{Recorded}
 use Rattle.tk_queue_session.specs.Emission.{entries_by, entry_by}
 use Rattle.tk_queue_session.specs.Senders.{SenderView}
 use Rattle.tk_query_lifecycle.specs.KeepsLifecycle.{IsWhole, is_step, steps_of}
@@ -25,8 +25,8 @@ use Rattle.tk_engine_unit_events.specs.Nesting.{BelongsTo, LacksFinish}
 use Rattle.tk_engine_unit_events.specs.Running.{RunningId, keys_of, with_ids}
 use Rattle.tk_engine_unit_events.specs.Standing.{BegunUnit, StandsAt}
 use Rattle.tk_engine_unit_events.specs.declared.unit_events.UnitProgress.{UnitProgress}
-use Rattle.tk_engine_unit_events.proofs.Nesting.{all_both, below_below, one_of}
-use Rattle.tk_engine_unit_events.proofs.Running.{cancel}
+use Rattle.tk_engine_unit_events.proofs.KeySpans.{all_both, below_below, one_of}
+use Rattle.tk_engine_unit_events.proofs.UnitStates.{cancel}
 
 -- ---- ids
 

@@ -10,22 +10,22 @@ use Rattle.tk_events.specs.declared.events.Event.{Event}
 use Rattle.tk_queue_session.specs.Emission.{entries_by}
 use Rattle.tk_query_lifecycle.specs.Lifecycle.{HasId}
 use Rattle.tk_query_lifecycle.specs.KeepsLifecycle.{KeepsLifecycle}
-use Rattle.tk_plan_units.specs.Cutting.{Piece, pieces_of}
-use Rattle.tk_plan_units.specs.Numbers.{IsNumbered}
-use Rattle.tk_plan_units.specs.Planned.{IsPlanned, Outline}
-use Rattle.tk_plan_units.specs.Trees.{forest, number_of}
+use Rattle.tk_plan.specs.Cutting.{Piece, pieces_of}
+use Rattle.tk_plan.specs.Numbers.{IsNumbered}
+use Rattle.tk_plan.specs.Planned.{IsPlanned, Outline}
+use Rattle.tk_plan.specs.Trees.{forest, number_of}
 use Rattle.tk_engine_execute.specs.Engines.{IsStaticEvent}
-use Rattle.tk_engine_laws.specs.Spines.{ArePlaced, end_of, IsOfUnit, IsOnSpine, IsSpineEvent}
-use Rattle.tk_engine_laws.specs.Spines.{SpineEmits, SpineKeepsLifecycle, SpineRuns}
+use Rattle.tk_plan_laws.specs.Spines.{ArePlaced, end_of, IsOfUnit, IsOnSpine, IsSpineEvent}
+use Rattle.tk_plan_laws.specs.Spines.{SpineEmits, SpineKeepsLifecycle, SpineRuns}
 use Rattle.tk_engine_lifecycle.specs.Units.{KeepsAround, UnitsKeepLifecycle, run_alone}
 use Rattle.tk_engine_unit_events.specs.Owners.{AreOwners}
 use Rattle.tk_engine_unit_events.specs.Shapes.{HavePlaces, IsInUnit, ShapeView, count_units, frame}
 use Rattle.tk_engine_unit_events.specs.Shapes.{end_in, first_in, keys_in, may_emit}
 use Rattle.tk_engine_unit_events.specs.Units.{UnitKeys}
-use Rattle.tk_lemmas.proofs.Lists.{get_below}
+use Rattle.tk_base.proofs.Lists.{get_below}
 use Rattle.tk_engine_unit_events.proofs.Owned.{owner_static}
 use Rattle.tk_engine_unit_events.proofs.UnitsOfKeys.{unit_below}
-use Rattle.tk_engine_unit_events.proofs.Running.{described_here, described_id}
+use Rattle.tk_engine_unit_events.proofs.UnitStates.{described_here, described_id}
 
 -- a number of a list, or else the one past its end
 either : (xs : List ℕ) (i none : ℕ) → ((x : ℕ) × (slice_get xs i ≡ Some x) × (get_or xs i none ≡ x))

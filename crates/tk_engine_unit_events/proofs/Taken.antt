@@ -23,7 +23,7 @@ use Rattle.tk_query_lifecycle.specs.Lifecycle.{HasId}
 use Rattle.tk_engine_lifecycle.specs.Units.{Frame}
 use Rattle.tk_engine_lifecycle.specs.UnderWay.{so_far}
 use Rattle.tk_engine_lifecycle.proofs.ByKey.{one_id}
-use Rattle.tk_engine_lifecycle.proofs.Going.{kept_id}
+use Rattle.tk_engine_lifecycle.proofs.UnitProgress.{kept_id}
 use Rattle.tk_engine_lifecycle.proofs.Splits.{head_is}
 use Rattle.tk_engine_unit_events.specs.Events.{IsRunning}
 use Rattle.tk_engine_unit_events.specs.RegisteredIds.{is_registered}
@@ -37,7 +37,7 @@ use Rattle.tk_engine_unit_events.specs.UnitSteps.{UnitView, child_request}
 use Rattle.tk_engine_unit_events.specs.steps.Taken.{IsNotedChild, IsOwnCause, IsSinkCause}
 use Rattle.tk_engine_unit_events.specs.declared.running_keys.RunningKey.{RunningKey}
 use Rattle.tk_engine_unit_events.proofs.Children.{HasRegistered, first_id}
-use Rattle.tk_engine_unit_events.proofs.Running.{cancel, static_id}
+use Rattle.tk_engine_unit_events.proofs.UnitStates.{cancel, static_id}
 
 -- ---- the ids that are noted
 

@@ -6,12 +6,12 @@ use Rattle.std.proofs.Common.{arith}
 use Rattle.std.proofs.lemmas.Bool.{cases_lt}
 use Rattle.std.proofs.lemmas.Option.{same_Some, slice_get_within}
 use Rattle.std.proofs.lemmas.List.{length-map, take_more}
-use Rattle.tk_plan_units.specs.Cutting.{Piece, pieces_of, units_of}
-use Rattle.tk_plan_units.specs.Numbers.{of_kind}
-use Rattle.tk_plan_units.specs.Planned.{IsPlanned, Outline}
-use Rattle.tk_plan_units.specs.Trees.{IsForest, Tree, forest, number_of, tree_of}
-use Rattle.tk_plan_units.specs.declared.trees.nodes.NumberedNode.{NumberedNode}
-use Rattle.tk_engine_laws.specs.Spines.{ArePlaced, IsOfUnit, count_static, end_of}
+use Rattle.tk_plan.specs.Cutting.{Piece, pieces_of, units_of}
+use Rattle.tk_plan.specs.Numbers.{of_kind}
+use Rattle.tk_plan.specs.Planned.{IsPlanned, Outline}
+use Rattle.tk_plan.specs.Trees.{IsForest, Tree, forest, number_of, tree_of}
+use Rattle.tk_plan.specs.declared.trees.nodes.NumberedNode.{NumberedNode}
+use Rattle.tk_plan_laws.specs.Spines.{ArePlaced, IsOfUnit, count_static, end_of}
 use Rattle.tk_engine_unit_events.specs.Owners.{AreOwners}
 
 -- ---- counting

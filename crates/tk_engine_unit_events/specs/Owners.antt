@@ -5,10 +5,10 @@ use Rattle.std.specs.Prelude.{if◌then◌else◌}
 use Rattle.std.specs.Option.{option_map}
 use Rattle.tk_ids.specs.IdText.{SegmentView, parent_of}
 use Rattle.tk_ids.specs.declared.descriptors.Descriptor.{Descriptor}
-use Rattle.tk_plan_units.specs.Cutting.{units_of}
-use Rattle.tk_plan_units.specs.Planned.{Outline}
-use Rattle.tk_plan_units.specs.Trees.{forest}
-use Rattle.tk_engine_laws.specs.Spines.{IsOfUnit, IsOnSpine}
+use Rattle.tk_plan.specs.Cutting.{units_of}
+use Rattle.tk_plan.specs.Planned.{Outline}
+use Rattle.tk_plan.specs.Trees.{forest}
+use Rattle.tk_plan_laws.specs.Spines.{IsOfUnit, IsOnSpine}
 
 -- whether two ids have the same segments
 abbrev pub same_id : List SegmentView → List SegmentView → Bool

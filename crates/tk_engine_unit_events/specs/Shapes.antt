@@ -4,10 +4,10 @@ use Rattle.std.specs.Prelude.{length, slice_get}
 use Rattle.tk_events.specs.declared.events.Event.{Event}
 use Rattle.tk_queue_session.specs.Emission.{entries_by}
 use Rattle.tk_query_lifecycle.specs.Lifecycle.{runs}
-use Rattle.tk_plan_units.specs.Cutting.{Piece, after_of, before_of, pieces_of, units_of}
-use Rattle.tk_plan_units.specs.Planned.{Outline}
-use Rattle.tk_plan_units.specs.Trees.{forest, number_of}
-use Rattle.tk_engine_laws.specs.Spines.{end_of}
+use Rattle.tk_plan.specs.Cutting.{Piece, after_of, before_of, pieces_of, units_of}
+use Rattle.tk_plan.specs.Planned.{Outline}
+use Rattle.tk_plan.specs.Trees.{forest, number_of}
+use Rattle.tk_plan_laws.specs.Spines.{end_of}
 use Rattle.tk_engine_lifecycle.specs.Units.{Frame}
 use Rattle.tk_engine_unit_events.specs.Owners.{owner_of}
 use Rattle.tk_engine_unit_events.specs.Units.{RunsUnit, UnitKeys}

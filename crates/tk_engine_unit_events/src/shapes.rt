@@ -4,20 +4,20 @@ ghost use Rattle.std.specs.Arc.{arc_value};
 ghost use Rattle.tk_ids.specs.Table.{AreDifferent};
 ghost use Rattle.tk_queue_session.specs.Emission.{entries_by};
 ghost use Rattle.tk_query_lifecycle.specs.Lifecycle.{runs};
-ghost use Rattle.tk_engine_laws.specs.Spines.{count_static, end_of};
+ghost use Rattle.tk_plan_laws.specs.Spines.{count_static, end_of};
 ghost use Rattle.tk_engine_lifecycle.specs.Units.{KeepsAround};
-ghost use Rattle.tk_plan_units.specs.Parents.{HasParentAt};
-ghost use Rattle.tk_plan_units.specs.Planned.{IsPlanned};
-ghost use Rattle.tk_plan_units.specs.Trees.{IsForest, tree_of};
+ghost use Rattle.tk_plan.specs.Parents.{HasParentAt};
+ghost use Rattle.tk_plan.specs.Planned.{IsPlanned};
+ghost use Rattle.tk_plan.specs.Trees.{IsForest, tree_of};
 ghost use Rattle.tk_engine_unit_events.specs.Owners.{AreOwners};
 ghost use Rattle.tk_engine_unit_events.specs.Shapes.{HavePlaces, count_units, frame, keys_in};
 
 use std::alloc::{AllocError, Global};
 use std::marker::Model;
 use std::sync::Arc;
-use tk_engine_laws::laws::spine;
 use tk_ids::{MAX_DESCRIPTORS, Table};
-use tk_plan_units::{NumberedNode, Plan, UnitTree};
+use tk_plan::{NumberedNode, Plan, UnitTree};
+use tk_plan_laws::laws::spine;
 
 /// A plan, with the unit and the parent of each static key.
 #[derive(Drop)]
@@ -29,7 +29,7 @@ pub struct Shape {
 }
 
 impl Model for Shape {
-    ghost use Rattle.tk_plan_units.specs.Parents.{AreParents};
+    ghost use Rattle.tk_plan.specs.Parents.{AreParents};
     ghost use Rattle.tk_engine_unit_events.specs.Owners.{AreOwners};
     ghost use Rattle.tk_engine_unit_events.specs.Shapes.{ShapeView};
 

@@ -17,4 +17,3 @@ pub use pairs::Pairs;
 pub use payloads::{Payload, try_clone_message};
 pub use registrations::{is_worker, registered_key};
 pub use statuses::Status;
-pub use tk_limits::MAX_WORKERS;

@@ -1,4 +1,4 @@
-mod Explaining
+mod ExplanationRows
 mod Spans
 mod PieceRows
 mod RowLemmas

@@ -4,8 +4,8 @@ use Rattle.std.specs.Prelude.{codes}
 use Rattle.std.specs.List.{flat_map}
 use Rattle.std.proofs.lemmas.Bool.{true≢false}
 use Rattle.std.proofs.lemmas.Option.{same_Some}
-use Rattle.tk_record_columns.specs.Recorded.{Recorded}
-use Rattle.tk_record_columns.specs.Selections.{Selected}
+use Rattle.tk_record.specs.Recorded.{Recorded}
+use Rattle.tk_record.specs.Selections.{Selected}
 use Rattle.tk_query_lifecycle.specs.LifecycleTexts.{lifecycle_text}
 use Rattle.tk_query_lifecycle.specs.declared.lifecycle_rules.Lifecycle.{Lifecycle}
 use Rattle.tk_query_lifecycle.proofs.LifecycleIsUnique.{lifecycle_is_unique}

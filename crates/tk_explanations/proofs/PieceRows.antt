@@ -5,8 +5,8 @@ use Rattle.std.proofs.lemmas.Bool.{true≢false}
 use Rattle.std.proofs.lemmas.List.{flat_map_more}
 use Rattle.tk_streams.specs.Pieces.{Adds, Outgoing}
 use Rattle.tk_streams.proofs.PieceLemmas.{adds_as, adds_both, adds_none}
-use Rattle.tk_record_columns.specs.Recorded.{Recorded}
-use Rattle.tk_record.proofs.WritingLemmas.{taken_item}
+use Rattle.tk_record.specs.Recorded.{Recorded}
+use Rattle.tk_record_text.proofs.WritingLemmas.{taken_item}
 use Rattle.tk_events.specs.declared.events.Entry.{Entry}
 use Rattle.tk_explanations.specs.Rows.{event_row, row_line, row_text, rows_text}
 use Rattle.tk_explanations.specs.declared.rows.Note.{Note}

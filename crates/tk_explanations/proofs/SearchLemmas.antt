@@ -2,8 +2,8 @@
 use Rattle.std.proofs.Common.{◌≡◌, ◌+◌, ◌-◌, ◌≤◌, ℕ, zero, suc, Bool, true, false, cond, ◌||◌, List, [], ◌∷◌, take, refl, sym, ap, ◌∙◌, arith}
 use Rattle.std.specs.Prelude.{Option, Some, None}
 use Rattle.std.specs.Option.{option_or}
-use Rattle.tk_lemmas.proofs.Options.{option_or-none}
-use Rattle.tk_lemmas.proofs.Truth.{or-false}
+use Rattle.tk_base.proofs.Options.{option_or-none}
+use Rattle.tk_base.proofs.Truth.{or-false}
 use Rattle.tk_events.specs.declared.kinds.Kind.{Kind}
 use Rattle.tk_events.specs.declared.events.Entry.{Entry}
 use Rattle.tk_query_lifecycle.specs.Lifecycle.{has_event, is_event}

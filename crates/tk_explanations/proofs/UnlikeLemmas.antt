@@ -5,9 +5,9 @@ use Rattle.std.specs.List.{slice_get}
 use Rattle.std.proofs.lemmas.Option.{none-some, same_Some}
 use Rattle.tk_lanes.specs.Flags.{IsNextSet, IsNoneSet}
 use Rattle.tk_events.specs.declared.events.Entry.{Entry}
-use Rattle.tk_record_columns.specs.Recorded.{Recorded}
-use Rattle.tk_record_columns.specs.Selections.{PositionedEntry, Selected, positioned, positioned_from}
-use Rattle.tk_record_columns.proofs.Picking.{length-positioned}
+use Rattle.tk_record.specs.Recorded.{Recorded}
+use Rattle.tk_record.specs.Selections.{PositionedEntry, Selected, positioned, positioned_from}
+use Rattle.tk_record.proofs.PickedEntries.{length-positioned}
 use Rattle.tk_query_conditions.specs.declared.conditions.Condition.{Condition}
 use Rattle.tk_query.specs.Holds.{holds}
 use Rattle.tk_query.proofs.AskedLemmas.{AreFlags}

@@ -1,6 +1,6 @@
 -- The explanation of whether executions that conflict kept away from each other.
 use Rattle.std.specs.Prelude.{◌≡◌, ℕ, Bool, List, [], ◌∷◌, max, min}
-use Rattle.tk_record_columns.specs.Selections.{Selected}
+use Rattle.tk_record.specs.Selections.{Selected}
 use Rattle.tk_query_conditions.specs.declared.conditions.Condition.{Condition}
 use Rattle.tk_query.specs.AnswerTexts.{exclusive_text, exclusive_yes}
 use Rattle.tk_query.specs.Exclusive.{IsExclusive}

@@ -18,8 +18,8 @@ use Rattle.std.specs.Prelude.{
 }
 use Rattle.tk_ids.specs.declared.descriptors.Descriptor.{Descriptor}
 use Rattle.tk_events.specs.declared.kinds.Kind.TheVariants.{Started}
-use Rattle.tk_record_columns.specs.Entries.{desc}
-use Rattle.tk_record_columns.specs.Recorded.{Recorded}
+use Rattle.tk_record.specs.Entries.{desc}
+use Rattle.tk_record.specs.Recorded.{Recorded}
 use Rattle.tk_query_lifecycle.specs.Lifecycle.{IsLifecycle, is_event}
 use Rattle.tk_query_lifecycle.specs.LifecycleTexts.{lifecycle_text}
 use Rattle.tk_query_lifecycle.specs.declared.lifecycle_rules.Lifecycle.{Lifecycle}

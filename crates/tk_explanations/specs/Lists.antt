@@ -3,9 +3,9 @@ use Rattle.std.specs.Prelude.{◌≡◌, ℕ, Bool, true, List, [], ◌∷◌, �
 use Rattle.std.specs.List.{flat_map}
 use Rattle.std.specs.Fmt.{decimal}
 use Rattle.tk_events.specs.Fields.{line_feed}
-use Rattle.tk_record_columns.specs.Entries.{desc}
-use Rattle.tk_record_columns.specs.Recorded.{Recorded}
-use Rattle.tk_record_columns.specs.Selections.{PositionedEntry, Selected}
+use Rattle.tk_record.specs.Entries.{desc}
+use Rattle.tk_record.specs.Recorded.{Recorded}
+use Rattle.tk_record.specs.Selections.{PositionedEntry, Selected}
 use Rattle.tk_query.specs.AnswerTexts.{blank, ending_name}
 use Rattle.tk_query.specs.ExecutionSteps.{step_at}
 use Rattle.tk_query.specs.Executions.{AreExecutions}

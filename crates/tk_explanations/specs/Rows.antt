@@ -17,9 +17,9 @@ use Rattle.std.specs.List.{flat_map}
 use Rattle.std.specs.Fmt.{decimal}
 use Rattle.tk_events.specs.declared.events.Entry.{Entry}
 use Rattle.tk_events.specs.Fields.{line_feed}
-use Rattle.tk_record_columns.specs.Entries.{desc}
-use Rattle.tk_record_columns.specs.Recorded.{Recorded}
-use Rattle.tk_record.specs.Spelling.{entry_line}
+use Rattle.tk_record.specs.Entries.{desc}
+use Rattle.tk_record.specs.Recorded.{Recorded}
+use Rattle.tk_record_text.specs.Spelling.{entry_line}
 use Rattle.tk_query.specs.AnswerTexts.{blank}
 use Rattle.tk_query.specs.declared.execution.Execution.{Execution}
 pub use Rattle.tk_explanations.specs.DescriptorTexts.{quotation_mark, id_field, descriptor_text}

@@ -11,8 +11,8 @@ use Rattle.tk_events.specs.declared.kinds.Kind.TheVariants.{
   File,
 }
 use Rattle.tk_events.specs.Fields.{field_text}
-use Rattle.tk_record_columns.specs.Entries.{desc}
-use Rattle.tk_record_columns.specs.Recorded.{Recorded}
+use Rattle.tk_record.specs.Entries.{desc}
+use Rattle.tk_record.specs.Recorded.{Recorded}
 use Rattle.tk_query_lifecycle.specs.LifecycleTexts.{rule_text}
 use Rattle.tk_explanations.specs.DescriptorTexts.{descriptor_text, quoted_name}
 use Rattle.tk_explanations.specs.declared.sentences.EventAt.{EventAt}

@@ -1,7 +1,7 @@
 //! Why an event breaks a rule of the lifecycle.
 ghost use Rattle.std.specs.Prelude.{◌≡◌, ◌<◌, length, Some, IfOk, IfSome};
 ghost use Rattle.tk_ids.specs.IdText.{id_text};
-ghost use Rattle.tk_record_columns.specs.Entries.{desc};
+ghost use Rattle.tk_record.specs.Entries.{desc};
 ghost use Rattle.tk_explanations.specs.Causes.{cause_at, cause_of, child_running, key_before, known_id, not_running, parent_at_rest, parent_step, ran_already, registration, static_key};
 
 use crate::event_searches::{
@@ -10,7 +10,7 @@ use crate::event_searches::{
 use crate::sentences::{Cause, EventAt};
 use std::alloc::{AllocError, Global};
 use tk_ids::{Descriptor, Text};
-use tk_query::LifecycleRule;
+use tk_query_lifecycle::LifecycleRule;
 use tk_record::Record;
 
 // The first position in the table of a descriptor whose id has this text.

@@ -13,8 +13,10 @@ use crate::faults::ExplainFault;
 use crate::rows::{Note, Row};
 use std::alloc::{AllocError, Global};
 use tk_ids::Text;
-use tk_query::{Condition, Exclusive, Execution, Executions, exclusive, executions};
-use tk_record::{Events, Target};
+use tk_query::{Exclusive, Execution, Executions, exclusive, executions};
+use tk_query_conditions::Condition;
+use tk_record::Events;
+use tk_streams::Target;
 
 // Finds the execution that starts at a position, and finishes.
 fn starting_at(list: &Executions, start: usize) -> Option<Execution>

@@ -10,8 +10,10 @@ use crate::match_rows::{add_condition, add_found, add_lacking};
 use crate::rows::{Note, Row};
 use std::alloc::{AllocError, Global};
 use tk_ids::Text;
-use tk_query::{Condition, Exact, holds_at, match_exactly};
-use tk_record::{Events, Target};
+use tk_query::{Exact, holds_at, match_exactly};
+use tk_query_conditions::Condition;
+use tk_record::Events;
+use tk_streams::Target;
 
 // Adds the rows of the first condition that doesn't hold of the event in its place, or of what is
 // left over where all hold.

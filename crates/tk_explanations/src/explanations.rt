@@ -5,7 +5,7 @@ ghost use Rattle.tk_query.specs.AnswerTexts.{blank};
 ghost use Rattle.std.specs.Io.KnownBytes.{Appends};
 ghost use Rattle.tk_streams.specs.Pieces.{Adds, outgoing};
 ghost use Rattle.tk_streams.specs.Stream.{AppendsPrefix};
-ghost use Rattle.tk_record_columns.specs.Record.{entry_of_view};
+ghost use Rattle.tk_record.specs.Record.{entry_of_view};
 ghost use Rattle.tk_explanations.specs.steps.Explained.{IsWritten};
 ghost use Rattle.tk_explanations.specs.Rows.{event_row, note_text, row_line, row_text, rows_text, span_text};
 
@@ -14,8 +14,8 @@ use crate::pieces::{put_descriptor_of, put_event_text, put_number};
 use crate::rows::{Note, Row};
 use crate::sentence_texts::put_sentence;
 use tk_query::Execution;
-use tk_record::{EntryView, Record, Target};
-use tk_streams::{Broken, Piece};
+use tk_record::{EntryView, Record};
+use tk_streams::{Broken, Piece, Target};
 
 fn put_note<T: Target>(piece: &mut Piece, target: &mut T, note: &Note)
     ensures { Adds (outgoing (T.contents target.old) (T.broken target.old) piece.old)

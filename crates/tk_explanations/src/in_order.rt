@@ -15,9 +15,11 @@ use crate::match_rows::{add_condition, add_found, add_nearest};
 use crate::rows::{Note, Row};
 use std::alloc::{AllocError, Global};
 use tk_ids::Text;
-use tk_query::{Condition, InOrder, find, match_in_order};
+use tk_query::{InOrder, find, match_in_order};
+use tk_query_conditions::Condition;
 use tk_query_nearest::nearest;
-use tk_record::{Events, Target};
+use tk_record::Events;
+use tk_streams::Target;
 
 // The positions at which conditions hold in turn, where there are some.
 fn positions_in_turn(

@@ -1,7 +1,7 @@
 //! What the definitions of the explanations imply.
 ghost use Rattle.std.specs.Prelude.{List};
-ghost use Rattle.tk_record_columns.specs.Recorded.{Recorded};
-ghost use Rattle.tk_record_columns.specs.Selections.{Selected};
+ghost use Rattle.tk_record.specs.Recorded.{Recorded};
+ghost use Rattle.tk_record.specs.Selections.{Selected};
 ghost use Rattle.tk_query_conditions.specs.declared.conditions.Condition.{Condition};
 ghost use Rattle.tk_explanations.specs.Collisions.{ExplainsExclusive};
 ghost use Rattle.tk_explanations.specs.Laws.{IsUnique};

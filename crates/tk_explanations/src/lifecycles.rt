@@ -1,7 +1,7 @@
 //! Why a record doesn't keep the lifecycle that a listener of an engine may rely on.
 ghost use Rattle.std.specs.Prelude.{◌≡◌, ◌++◌, length, true, IfOk, OnOk, IsErrOf};
 ghost use Rattle.tk_events.specs.declared.kinds.Kind.TheVariants.{Started};
-ghost use Rattle.tk_record_columns.specs.Entries.{desc};
+ghost use Rattle.tk_record.specs.Entries.{desc};
 ghost use Rattle.tk_query_lifecycle.specs.Lifecycle.{is_event};
 ghost use Rattle.tk_explanations.specs.Explained.{IsExplained};
 ghost use Rattle.tk_explanations.specs.EventSearches.{last_before};
@@ -15,8 +15,9 @@ use crate::rows::{Note, Row};
 use crate::sentences::{Cause, EventAt, Sentence};
 use std::alloc::{AllocError, Global};
 use tk_ids::{Descriptor, Text};
-use tk_query::{Lifecycle, LifecycleRule, lifecycle};
-use tk_record::{Record, Target};
+use tk_query_lifecycle::{Lifecycle, LifecycleRule, lifecycle};
+use tk_record::Record;
+use tk_streams::Target;
 
 // The event that a cause speaks of.
 fn earlier_event(cause: &Cause) -> Option<EventAt>

@@ -11,8 +11,8 @@ use crate::faults::ExplainFault;
 use crate::pieces::put_id;
 use std::alloc::Global;
 use tk_query::{Execution, ExecutionIter};
-use tk_record::{Events, Record, Target};
-use tk_streams::{Broken, Piece, ShortLine};
+use tk_record::{Events, Record};
+use tk_streams::{Broken, Piece, ShortLine, Target};
 
 // Makes the line of an execution up to the id, from its end to its start.
 fn head_of(execution: Execution) -> ShortLine

@@ -14,9 +14,11 @@ use crate::match_rows::{add_condition, add_found, add_nearest};
 use crate::rows::Row;
 use std::alloc::{AllocError, Global};
 use tk_ids::Text;
-use tk_query::{Condition, Loose, first_fit, match_loosely};
+use tk_query::{Loose, first_fit, match_loosely};
+use tk_query_conditions::Condition;
 use tk_query_nearest::nearest;
-use tk_record::{Events, Target};
+use tk_record::Events;
+use tk_streams::Target;
 
 // The position of the first event of which the condition holds, where there is one.
 fn first_position(

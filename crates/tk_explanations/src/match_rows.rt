@@ -4,7 +4,7 @@ ghost use Rattle.tk_explanations.specs.MatchRows.{condition_row, found_rows, lac
 
 use crate::rows::{Note, Row};
 use std::alloc::{AllocError, Global};
-use tk_query::{Condition, write_condition};
+use tk_query_conditions::{Condition, write_condition};
 use tk_query_nearest::{Nearest, lacking_text};
 use tk_record::Record;
 

@@ -2,13 +2,14 @@
 ghost use Rattle.std.specs.Fmt.{decimal};
 ghost use Rattle.std.specs.Prelude.{◌≡◌, Some};
 ghost use Rattle.tk_streams.specs.Pieces.{Adds, outgoing};
-ghost use Rattle.tk_record_columns.specs.Entries.{desc};
-ghost use Rattle.tk_record_columns.specs.Record.{entry_of_view};
+ghost use Rattle.tk_record.specs.Entries.{desc};
+ghost use Rattle.tk_record.specs.Record.{entry_of_view};
 ghost use Rattle.tk_explanations.specs.DescriptorTexts.{quoted_name};
 ghost use Rattle.tk_explanations.specs.Rows.{descriptor_text, event_text, id_field};
 
 use tk_ids::Descriptor;
-use tk_record::{EntryView, Record, put_event, put_text};
+use tk_record::{EntryView, Record};
+use tk_record_text::{put_event, put_text};
 use tk_streams::{Piece, ShortLine, Target};
 
 /// Adds a number.

@@ -2,7 +2,7 @@
 ghost use Rattle.std.specs.Fmt.{decimal};
 ghost use Rattle.std.specs.Prelude.{◌≡◌, ◌++◌, codes};
 ghost use Rattle.tk_streams.specs.Pieces.{Adds, outgoing};
-ghost use Rattle.tk_record_columns.specs.Entries.{desc};
+ghost use Rattle.tk_record.specs.Entries.{desc};
 ghost use Rattle.tk_query_lifecycle.specs.LifecycleTexts.{rule_text};
 ghost use Rattle.tk_explanations.specs.Rows.{descriptor_text};
 ghost use Rattle.tk_explanations.specs.Sentences.{cause_text, event_phrase, phrase, phrase_at, sentence_text, success_text, unfinished_text};
@@ -11,9 +11,10 @@ use crate::pieces::{put_descriptor_of, put_name, put_number};
 use crate::sentences::{Cause, EventAt, Sentence};
 use tk_events::Kind;
 use tk_ids::Text;
-use tk_query::LifecycleRule;
-use tk_record::{Record, Target, put_text};
-use tk_streams::Piece;
+use tk_query_lifecycle::LifecycleRule;
+use tk_record::Record;
+use tk_record_text::put_text;
+use tk_streams::{Piece, Target};
 
 // What an event of the kind did, said of its descriptor.
 fn phrase_of(kind: Kind) -> &'static str

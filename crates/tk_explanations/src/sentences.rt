@@ -2,7 +2,7 @@
 
 use tk_events::Kind;
 use tk_ids::Text;
-use tk_query::LifecycleRule;
+use tk_query_lifecycle::LifecycleRule;
 
 /// An event of a record: its position, its key and its kind.
 #[derive(Clone, Copy, Debug)]

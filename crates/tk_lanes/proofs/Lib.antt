@@ -2,7 +2,7 @@ pub mod Blocks
 pub mod Counts
 pub mod Lanes
 pub mod Nibbles
-pub mod Picking
+pub mod PickedItems
 pub mod Positions
 pub mod Search
 pub mod Tallies

@@ -1,2 +1,5 @@
-pub mod Tables
-pub mod ReadNodes
+pub mod Trees
+pub mod Script
+pub mod Weights
+pub mod MaskAccess
+pub mod CuttingSteps

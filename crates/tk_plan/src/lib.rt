@@ -1,20 +1,15 @@
-//! Plans, read from JSON or built from nodes in code.
-//!
-//! - From bytes: `plan_reading`.
-//! - From nodes in code: `plan_building`.
-//! - What holds of all plans: `laws`.
+//! How a plan is cut into its spine and its units, and what each of them does.
 #![tactic(auto)]
 
 pub mod laws;
-mod plan_building;
-mod plan_reading;
+mod plans;
+mod scripts;
+mod trees;
+mod units;
 
-pub use plan_building::build_plan;
-pub use plan_reading::read_plan;
-pub use tk_plan_json::MAX_LEVELS;
-pub use tk_plan_members::PlanFault;
-pub use tk_plan_nodes::{ExecutionMode, LockMode, PlanLock, PlanNode};
-pub use tk_plan_units::{
-    Act, Entries, Files, Lock, Locks, MAX_EVENTS, MAX_KEYS, Node, NumberedNode, Plan, Step,
-    UnitTree, count_events,
-};
+pub use plans::Plan;
+pub use scripts::counts::count_events;
+pub use scripts::steps::{Act, Step};
+pub use trees::nodes::{Entries, Files, Lock, Locks, Node, NumberedNode};
+pub use units::needs::MAX_KEYS;
+pub use units::unit_trees::UnitTree;

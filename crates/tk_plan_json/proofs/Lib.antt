@@ -1,7 +1,7 @@
 pub mod Groups
-pub mod Meeting
+pub mod SegmentSets
 pub mod Verdicts
 pub mod CheckSteps
-pub mod Going
+pub mod NodeSteps
 pub mod Distinct
 pub mod OnePass

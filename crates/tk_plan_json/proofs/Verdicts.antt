@@ -2,12 +2,12 @@
 use Rattle.std.proofs.Common.{◌≡◌, ℕ, zero, suc, List, [], ◌∷◌, ◌++◌, map, flat_map, Option, refl, sym, ap, ap₂, ◌∙◌, append_assoc, append-nil}
 use Rattle.std.proofs.lemmas.List.{map-append}
 use Rattle.std.specs.Option.{option_or}
-use Rattle.tk_lemmas.proofs.Options.{option_or-assoc}
+use Rattle.tk_base.proofs.Options.{option_or-assoc}
 use Rattle.tk_ids.specs.IdText.{SegmentView}
-use Rattle.tk_plan_units.specs.declared.trees.nodes.Node.{Node}
-use Rattle.tk_plan_units.specs.Trees.{Tree, flat, flats, contents}
-use Rattle.tk_plan_units.specs.Ids.{descriptors, descriptors_below}
-use Rattle.tk_plan_members.specs.Checks.{first}
+use Rattle.tk_plan.specs.declared.trees.nodes.Node.{Node}
+use Rattle.tk_plan.specs.Trees.{Tree, flat, flats, contents}
+use Rattle.tk_plan.specs.Ids.{descriptors, descriptors_below}
+use Rattle.tk_plan_json_members.specs.Checks.{first}
 use Rattle.tk_plan_json.specs.NodeInputs.{NodeInput, node_of, below, node_inputs, forest_of, grown}
 use Rattle.tk_plan_json.specs.Verdicts.{checks, joined, verdict}
 

@@ -3,11 +3,11 @@ use Rattle.std.specs.Prelude.{◌≡◌, ◌≤◌}
 use Rattle.std.specs.Prelude.{true, false, length}
 use Rattle.std.specs.List.{list_all, count_by}
 use Rattle.tk_ids.specs.declared.tables.TheConstants.{MAX_DESCRIPTORS}
-use Rattle.tk_plan_units.specs.declared.units.needs.TheConstants.{MAX_KEYS}
-use Rattle.tk_plan_units.specs.Ids.{descriptors}
-use Rattle.tk_plan_units.specs.Keys.{lock_keys}
-use Rattle.tk_plan_units.specs.Planned.{is_lawful_node}
-use Rattle.tk_plan_units.specs.Trees.{flat, contents}
+use Rattle.tk_plan.specs.declared.units.needs.TheConstants.{MAX_KEYS}
+use Rattle.tk_plan.specs.Ids.{descriptors}
+use Rattle.tk_plan.specs.Keys.{lock_keys}
+use Rattle.tk_plan.specs.Planned.{is_lawful_node}
+use Rattle.tk_plan.specs.Trees.{flat, contents}
 use Rattle.tk_plan_json.specs.declared.limits.TheConstants.{MAX_LEVELS}
 use Rattle.tk_plan_json.specs.Verdicts.{is_kind}
 use Rattle.tk_plan_json.specs.NodeInputs.{NodeInput, grown}

@@ -1,11 +1,11 @@
 //! The different lock keys.
 ghost use Rattle.std.specs.Prelude.{◌≡◌, OnOk};
-ghost use Rattle.tk_plan_units.specs.Keys.{note_key, note_locks};
+ghost use Rattle.tk_plan.specs.Keys.{note_key, note_locks};
 
 use indexmap::IndexSet;
 use std::alloc::{AllocError, Global};
 use tk_ids::Text;
-use tk_plan_units::Lock;
+use tk_plan::Lock;
 
 fn note(alloc: Global, keys: &mut IndexSet<Text>, key: &str) -> Result<(), AllocError>
     ensures { OnOk result (keys.new.keys ≡ note_key keys.old.keys key.now) }

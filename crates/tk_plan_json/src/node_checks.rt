@@ -4,13 +4,13 @@ ghost use Rattle.std.specs.List.{count_by};
 ghost use Rattle.serde_json.specs.View.{view};
 ghost use Rattle.tk_ids.specs.Answer.{IsMadeOf};
 ghost use Rattle.tk_ids.specs.declared.tables.TheConstants.{MAX_DESCRIPTORS};
-ghost use Rattle.tk_plan_units.specs.Keys.{note_locks};
-ghost use Rattle.tk_plan_units.specs.Trees.{contents};
-ghost use Rattle.tk_plan_members.specs.Answers.{Reads};
-ghost use Rattle.tk_plan_members.specs.Checks.{first};
+ghost use Rattle.tk_plan.specs.Keys.{note_locks};
+ghost use Rattle.tk_plan.specs.Trees.{contents};
+ghost use Rattle.tk_plan_json_members.specs.Answers.{Reads};
+ghost use Rattle.tk_plan_json_members.specs.Checks.{first};
 ghost use Rattle.tk_plan_json.specs.steps.Fields.{HasFields, checked_of};
 ghost use Rattle.tk_plan_json.specs.Verdicts.{id_fault, node_check, is_kind, checks};
-ghost use Rattle.tk_plan_members.specs.Refusals.{Meets};
+ghost use Rattle.tk_plan_json_members.specs.Refusals.{Meets};
 ghost use Rattle.tk_plan_json.specs.declared.limits.TheConstants.{MAX_LEVELS};
 ghost use Rattle.tk_plan_json.specs.steps.CodeValues.{seen, above_of, json_segment_text, as_plan_fault, IsNamed};
 ghost use Rattle.tk_plan_json.specs.Progress.{IsNoted};
@@ -25,9 +25,9 @@ use crate::read_nodes::{Checked, Named, ReadNodes};
 use crate::siblings::Siblings;
 use std::alloc::Global;
 use tk_ids::{IdFault, MAX_DESCRIPTORS, Segment, TableFault, UniqueId};
-use tk_plan_members::PlanFault;
-use tk_plan_members::member_values::TwoTexts;
-use tk_plan_units::{Lock, MAX_KEYS, Node};
+use tk_plan::{Lock, MAX_KEYS, Node};
+use tk_plan_json_members::PlanFault;
+use tk_plan_json_members::member_values::TwoTexts;
 
 /// Reads the members of a node by its kind.
 fn fields_of<'v>(alloc: Global, node_input: NodeInput<'v>) -> Result<Fields<'v>, PlanFault>

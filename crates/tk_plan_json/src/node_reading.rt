@@ -1,16 +1,16 @@
 //! Reading a plan's nodes.
 ghost use Rattle.std.specs.Prelude.{◌≡◌, ◌≤◌, ◌<◌, ◌+◌, ◌-◌, ◌++◌, ◌∷◌, [], length, map, IfOk, OnOk};
 ghost use Rattle.serde_json.specs.View.{view};
-ghost use Rattle.tk_plan_units.specs.Trees.{flat, contents};
-ghost use Rattle.tk_plan_units.specs.Ids.{descriptors};
-ghost use Rattle.tk_plan_members.specs.Checks.{first};
+ghost use Rattle.tk_plan.specs.Trees.{flat, contents};
+ghost use Rattle.tk_plan.specs.Ids.{descriptors};
+ghost use Rattle.tk_plan_json_members.specs.Checks.{first};
 ghost use Rattle.tk_plan_json.specs.Verdicts.{checks, verdict};
 ghost use Rattle.tk_ids.specs.declared.tables.TheConstants.{MAX_DESCRIPTORS};
 ghost use Rattle.tk_plan_json.specs.declared.limits.TheConstants.{MAX_LEVELS};
 ghost use Rattle.tk_plan_json.specs.steps.Progress.{AddsGroup, AddsTree, NodeGroup, verdict_of_group, verdict_of_node, levels_below, levels_from};
 ghost use Rattle.tk_plan_json.specs.Progress.{IsNoted, HasRead};
 ghost use Rattle.tk_plan_json.specs.steps.Progress.{state, IsDescribed, IsAdded, IsStarted, IsSpanned};
-ghost use Rattle.tk_plan_members.specs.Refusals.{Meets};
+ghost use Rattle.tk_plan_json_members.specs.Refusals.{Meets};
 ghost use Rattle.tk_plan_json.specs.steps.CodeValues.{seen, node_at, array_at};
 ghost use Rattle.tk_plan_json.specs.NodeInputs.{node_inputs, node_inputs_in, root_at, below, grown, id_of, segment_in, segment_of};
 
@@ -22,10 +22,10 @@ use crate::siblings::Siblings;
 use serde_json::Value;
 use std::alloc::{AllocError, Global};
 use tk_ids::{Descriptor, UniqueId};
-use tk_plan_members::PlanFault;
-use tk_plan_members::json_paths::JsonPath;
-use tk_plan_members::path_texts::member_path;
-use tk_plan_units::{Node, NumberedNode};
+use tk_plan::{Node, NumberedNode};
+use tk_plan_json_members::PlanFault;
+use tk_plan_json_members::json_paths::JsonPath;
+use tk_plan_json_members::path_texts::member_path;
 
 /// Puts the descriptor of a static node at the end, or counts a dynamic node.
 fn add_descriptor(read: &mut ReadNodes, node: &Node, id: UniqueId) -> Result<(), AllocError>

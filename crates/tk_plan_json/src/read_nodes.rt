@@ -4,7 +4,7 @@ ghost use Rattle.std.specs.Prelude.{◌≡◌, []};
 use indexmap::IndexSet;
 use std::alloc::Global;
 use tk_ids::{Descriptor, Segment, Text, UniqueId};
-use tk_plan_units::{Node, NumberedNode};
+use tk_plan::{Node, NumberedNode};
 
 /// The nodes that were read, in preorder, and what they have.
 #[derive(Drop)]

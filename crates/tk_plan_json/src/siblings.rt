@@ -8,7 +8,7 @@ use indexmap::IndexSet;
 use std::alloc::{AllocError, Global};
 use std::marker::Model;
 use tk_ids::Text;
-use tk_plan_members::member_values::TwoTexts;
+use tk_plan_json_members::member_values::TwoTexts;
 
 /// The segments of a parent's children, as far as they were read.
 #[derive(Drop)]

@@ -5,7 +5,7 @@ use Rattle.std.specs.List.{Contains}
 use Rattle.std.proofs.lemmas.Bool.{cases_lt, cases_order, cases_eq, true≢false, ltb-true, lt-ltb, and_parts, and_from, or_left, or_right}
 use Rattle.std.proofs.lemmas.List.{get_or-set_same, get_or-set_other, get_or_past, length-set}
 use Rattle.std.proofs.lemmas.Option.{same_Some, none-some}
-use Rattle.tk_record_columns.specs.Selections.{Selected}
+use Rattle.tk_record.specs.Selections.{Selected}
 use Rattle.tk_query_conditions.specs.declared.conditions.Condition.{Condition}
 use Rattle.tk_query.specs.declared.answers.Exclusive.{Exclusive}
 use Rattle.tk_query.specs.declared.answers.Exclusive.TheVariants.{Yes, No}

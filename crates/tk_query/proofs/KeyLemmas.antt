@@ -5,7 +5,7 @@ use Rattle.std.proofs.lemmas.Bool.{ne_eqb, true≢false}
 use Rattle.std.proofs.lemmas.Option.{same_Some, none-some}
 use Rattle.std.proofs.lemmas.List.{length-map}
 use Rattle.tk_events.specs.declared.events.Entry.{Entry}
-use Rattle.tk_record_columns.specs.Recorded.{Recorded}
+use Rattle.tk_record.specs.Recorded.{Recorded}
 use Rattle.tk_query.specs.declared.rules.DescriptorTest.{DescriptorTest}
 use Rattle.tk_query.specs.steps.Rules.{key_passes, AreAnswers}
 use Rattle.tk_query.specs.Pairing.{open_of, HasSlot, HaveSlots}

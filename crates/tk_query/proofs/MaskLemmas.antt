@@ -6,10 +6,10 @@ use Rattle.std.specs.Simd.Lanes.{zip2}
 use Rattle.std.proofs.lemmas.Simd.{zip2-map}
 use Rattle.std.proofs.lemmas.List.{length-map, take_more, take_all, map-append}
 use Rattle.std.proofs.lemmas.List.Folds.{list_all-append, list_any-append}
-use Rattle.tk_lemmas.proofs.Truth.{and-true, or-false}
+use Rattle.tk_base.proofs.Truth.{and-true, or-false}
 use Rattle.tk_events.specs.declared.events.Entry.{Entry}
-use Rattle.tk_record_columns.specs.Recorded.{Recorded}
-use Rattle.tk_record_columns.proofs.Picking.{if_ok_same}
+use Rattle.tk_record.specs.Recorded.{Recorded}
+use Rattle.tk_record.proofs.PickedEntries.{if_ok_same}
 use Rattle.tk_query_conditions.specs.declared.conditions.Condition.{Condition}
 use Rattle.tk_query.specs.Holds.{holds}
 use Rattle.tk_query.specs.declared.rules.Rule.{Rule}

@@ -5,17 +5,17 @@ use Rattle.std.proofs.lemmas.List.{length-map}
 use Rattle.std.specs.Option.{is_some}
 use Rattle.std.specs.Simd.Lanes.{zip2}
 use Rattle.std.proofs.lemmas.Bool.{cases_lt, and_parts, true≢false}
-use Rattle.tk_lemmas.proofs.Truth.{and-true}
+use Rattle.tk_base.proofs.Truth.{and-true}
 use Rattle.tk_events.specs.declared.events.Entry.{Entry}
-use Rattle.tk_record_columns.specs.Recorded.{Recorded}
-use Rattle.tk_record_columns.specs.Selections.{PositionedEntry, Selected, passes, positioned_from, events_of}
+use Rattle.tk_record.specs.Recorded.{Recorded}
+use Rattle.tk_record.specs.Selections.{PositionedEntry, Selected, passes, positioned_from, events_of}
 use Rattle.tk_query_conditions.specs.declared.conditions.Condition.{Condition}
 use Rattle.tk_query.specs.Holds.{holds}
 use Rattle.tk_lanes.specs.Flags.{IsNextSet, IsNoneSet}
 use Rattle.tk_query.specs.Asked.{fits, IsFirstFit}
 use Rattle.tk_query.specs.steps.Asked.{AreLeft}
 use Rattle.tk_query.specs.steps.Rules.{HoldsWithin}
-use Rattle.tk_record_columns.specs.declared.selections.ColumnTest.{ColumnTest}
+use Rattle.tk_record.specs.declared.selections.ColumnTest.{ColumnTest}
 use Rattle.tk_query.specs.Matches.{HoldsAt, IsFirstUnlike, IsFirstNowhere, HoldsSomewhere}
 use Rattle.tk_query.proofs.AskedLemmas.{AreFlags, asked_set, fits_clear, fits_set, map_get, next_is, none_first, none_left}
 

@@ -5,7 +5,7 @@ use Rattle.std.proofs.lemmas.Option.{same_Some, none-some}
 use Rattle.std.proofs.lemmas.List.{append-nil, append_assoc, get_or_append_left, get_or_push, get_or_default}
 use Rattle.std.proofs.lemmas.List.Elements.{Contains-append_left, Contains-append_right, Contains-append_cases}
 use Rattle.std.proofs.lemmas.Bool.{cases_lt, eqb-false, ne_eqb, true≢false}
-use Rattle.tk_record_columns.specs.Selections.{Selected}
+use Rattle.tk_record.specs.Selections.{Selected}
 use Rattle.tk_query.specs.declared.pairing.Pairing.{Pairing}
 use Rattle.tk_query.specs.ExecutionSteps.{step_at}
 use Rattle.tk_query.proofs.AskedLemmas.{AreFlags, step_clear}

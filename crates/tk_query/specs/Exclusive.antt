@@ -1,6 +1,6 @@
 -- Whether executions that conflict kept away from each other.
 use Rattle.std.specs.Prelude.{◌≡◌, ◌≢◌, ℕ, ◌<◌, ◌≤◌, Bool, true, ◌&&◌, ◌||◌}
-use Rattle.tk_record_columns.specs.Selections.{Selected}
+use Rattle.tk_record.specs.Selections.{Selected}
 use Rattle.tk_query_conditions.specs.declared.conditions.Condition.{Condition}
 use Rattle.tk_query.specs.declared.answers.Exclusive.{Exclusive}
 use Rattle.tk_query.specs.declared.answers.Exclusive.TheVariants.{Yes, No}

@@ -8,7 +8,7 @@ use Rattle.tk_events.specs.declared.statuses.Status.TheVariants as status
 use Rattle.tk_events.specs.declared.payloads.Payload.{Payload}
 use Rattle.tk_events.specs.declared.payloads.Payload.TheVariants.{Outcome}
 use Rattle.tk_events.specs.declared.events.Entry.{Entry}
-use Rattle.tk_record_columns.specs.Selections.{Selected}
+use Rattle.tk_record.specs.Selections.{Selected}
 use Rattle.tk_query.specs.Asked.{event_at}
 use Rattle.tk_query.specs.declared.execution.Ending.{Ending}
 use Rattle.tk_query.specs.declared.execution.Ending.TheVariants.{Aborted, Successful, Failed}

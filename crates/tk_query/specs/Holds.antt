@@ -26,9 +26,9 @@ use Rattle.tk_events.specs.declared.payloads.Payload.{Payload}
 use Rattle.tk_events.specs.declared.payloads.Payload.TheVariants.{Reason, Outcome, Report, Path}
 use Rattle.tk_events.specs.declared.events.Entry.{Entry}
 use Rattle.tk_ids.specs.DTypes.{is_test, is_container}
-use Rattle.tk_record_columns.specs.Entries.{of_kind, of_status, desc}
-use Rattle.tk_record_columns.specs.Recorded.{Recorded}
-use Rattle.tk_record_columns.specs.Selections.{has_type}
+use Rattle.tk_record.specs.Entries.{of_kind, of_status, desc}
+use Rattle.tk_record.specs.Recorded.{Recorded}
+use Rattle.tk_record.specs.Selections.{has_type}
 use Rattle.tk_query_conditions.specs.Cond.{
   Bare,
   Test,

@@ -1,6 +1,6 @@
 -- What follows from the definitions of the answers and of executions.
 use Rattle.std.specs.Prelude.{◌≡◌, List}
-use Rattle.tk_record_columns.specs.Selections.{Selected}
+use Rattle.tk_record.specs.Selections.{Selected}
 use Rattle.tk_query_conditions.specs.declared.conditions.Condition.{Condition}
 use Rattle.tk_query.specs.declared.answers.Exact.{Exact}
 use Rattle.tk_query.specs.declared.answers.Exclusive.{Exclusive}

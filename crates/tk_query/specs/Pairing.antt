@@ -2,8 +2,8 @@
 use Rattle.std.specs.Prelude.{◌≡◌, ℕ, zero, suc, ◌-◌, ◌/◌, ◌%◌, ◌<◌, ◌==◌, if◌then◌else◌}
 use Rattle.std.specs.Prelude.{List, [], ◌∷◌, ◌++◌, length, get_or, slice_get, Option, Some, None}
 use Rattle.tk_events.specs.declared.events.Entry.{Entry}
-use Rattle.tk_record_columns.specs.Recorded.{Recorded}
-use Rattle.tk_record_columns.specs.Selections.{Selected}
+use Rattle.tk_record.specs.Recorded.{Recorded}
+use Rattle.tk_record.specs.Selections.{Selected}
 use Rattle.tk_query.specs.ExecutionSteps.{step_at}
 use Rattle.tk_query.specs.declared.pairing.Pairing.{Pairing}
 use Rattle.tk_query.specs.declared.open_starts.TheConstants.{KEYS_IN_ROW}

@@ -10,7 +10,7 @@ use crate::pairing::Pairing;
 use std::alloc::{AllocError, Global};
 use tk_lanes::Flags;
 use tk_query_conditions::Condition;
-use tk_record_columns::Events;
+use tk_record::Events;
 
 /// Under the position of each start that of its finish, and 0 where no execution starts that
 /// finishes: a finish never stands at position 0.

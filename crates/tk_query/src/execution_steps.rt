@@ -1,11 +1,11 @@
 //! What events do to executions.
 ghost use Rattle.std.specs.Prelude.{◌≡◌};
 ghost use Rattle.tk_query.specs.ExecutionSteps.{ending_of, transition_of, step_of};
-ghost use Rattle.tk_record_columns.specs.Record.{entry_of_view};
+ghost use Rattle.tk_record.specs.Record.{entry_of_view};
 
 use crate::execution::Ending;
 use tk_events::{Kind, Payload, Status};
-use tk_record_columns::EntryView;
+use tk_record::EntryView;
 
 /// What an event does to the execution of its key.
 #[derive(Clone, Copy)]

@@ -2,17 +2,17 @@
 ghost use Rattle.std.specs.Prelude.{◌≡◌, ◌==◌, false, MatchOption, slice_get, bytes_eq};
 ghost use Rattle.std.specs.List.{list_all, list_any};
 ghost use Rattle.tk_ids.specs.DTypes.{is_test, is_container};
-ghost use Rattle.tk_record_columns.specs.Entries.{of_kind, of_status, desc};
-ghost use Rattle.tk_record_columns.specs.Selections.{has_type, passes};
+ghost use Rattle.tk_record.specs.Entries.{of_kind, of_status, desc};
+ghost use Rattle.tk_record.specs.Selections.{has_type, passes};
 ghost use Rattle.tk_query.specs.Holds.{holds, has_within, has_reason, has_path, has_message, is_engine, same_pair, all_within, reports};
 ghost use Rattle.tk_query.specs.steps.Rules.{descriptor_passes, key_passes, payload_passes, rule_holds};
-ghost use Rattle.tk_record_columns.specs.Record.{entry_of_view};
+ghost use Rattle.tk_record.specs.Record.{entry_of_view};
 
 use crate::rules::{DescriptorTest, PayloadTest, Rule, rule_of};
 use tk_events::{Kind, Pairs, Payload, Status};
 use tk_ids::{Descriptor, Text};
 use tk_query_conditions::Condition;
-use tk_record_columns::{ColumnTest, EntryView, Record};
+use tk_record::{ColumnTest, EntryView, Record};
 
 fn is_test(record: &Record, key: u32) -> bool
     ensures { result ≡ has_type is_test (desc «record».now key) }

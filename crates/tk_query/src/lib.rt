@@ -20,5 +20,3 @@ pub use judging::{holds, holds_at};
 pub use masks::select;
 pub use matching::{find, first_fit, match_exactly, match_in_order, match_loosely};
 pub use pairing::{ExecutionIter, executions};
-pub use tk_query_conditions::{CondFault, Condition, MAX_DEPTH, read_condition, write_condition};
-pub use tk_query_lifecycle::{Lifecycle, LifecycleRule, lifecycle};

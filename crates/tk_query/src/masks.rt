@@ -1,7 +1,7 @@
 //! Selecting events by a condition.
 ghost use Rattle.std.specs.Prelude.{◌≡◌, None, if◌then◌else◌, map, get_or, slice_get, IfOk, OnOk, false, MatchOption};
 ghost use Rattle.std.specs.List.{list_all, list_any};
-ghost use Rattle.tk_record_columns.specs.Selections.{filtered_by, passes};
+ghost use Rattle.tk_record.specs.Selections.{filtered_by, passes};
 ghost use Rattle.tk_query.specs.declared.rules.Rule.{Rule};
 ghost use Rattle.tk_query.specs.Holds.{holds};
 ghost use Rattle.tk_query.specs.steps.Rules.{key_passes, rule_holds, AreAnswers};
@@ -11,7 +11,7 @@ use crate::rules::{DescriptorTest, PayloadTest, Rule, rule_of};
 use std::alloc::{AllocError, Global};
 use tk_lanes::Flags;
 use tk_query_conditions::Condition;
-use tk_record_columns::{ColumnTest, Events, Record};
+use tk_record::{ColumnTest, Events, Record};
 
 fn byte_of(flag: bool) -> u8
     ensures { result ≡ (if flag then 1 else 0) }

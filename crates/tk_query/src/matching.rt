@@ -12,7 +12,7 @@ use crate::rules::column_test_of;
 use std::alloc::{AllocError, Global};
 use tk_lanes::Flags;
 use tk_query_conditions::Condition;
-use tk_record_columns::Events;
+use tk_record::Events;
 
 /// The first position not below `from` of one of the candidates of which the condition holds, where
 /// it holds of no other event.

@@ -6,7 +6,7 @@ use std::alloc::{AllocError, Global};
 use std::marker::Model;
 use std::mem;
 use tk_ids::MAX_DESCRIPTORS;
-use tk_record_columns::Record;
+use tk_record::Record;
 
 /// How many keys share a row: those that one worker may register.
 pub(crate) const KEYS_IN_ROW: usize = MAX_DESCRIPTORS;

@@ -11,7 +11,7 @@ use crate::execution_steps::{ExecutionStep, Transition, step_of};
 use crate::open_starts::OpenStarts;
 use std::alloc::{AllocError, Global};
 use std::marker::Model;
-use tk_record_columns::{Events, Record};
+use tk_record::{Events, Record};
 
 /// The execution that a step ends, where `started` is the open start of its key.
 fn ended_by(

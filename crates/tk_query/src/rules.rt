@@ -1,14 +1,14 @@
 //! By what each condition is judged.
 ghost use Rattle.std.specs.Prelude.{◌≡◌, IfSome};
-ghost use Rattle.tk_record_columns.specs.Recorded.{Recorded};
+ghost use Rattle.tk_record.specs.Recorded.{Recorded};
 ghost use Rattle.tk_query.specs.steps.Rules.{AcceptsWithin, AllHoldWithin, HoldsWithin, IsRuleOf};
 
 use crate::rules::PayloadTest::{Message, Path, Reason, Report};
 use tk_events::{Kind, Pairs, Status};
 use tk_ids::Text;
 use tk_query_conditions::Condition;
-use tk_record_columns::ColumnTest;
-use tk_record_columns::ColumnTest::{OfKind, OfStatus};
+use tk_record::ColumnTest;
+use tk_record::ColumnTest::{OfKind, OfStatus};
 
 /// What a condition asks of the payload of an event.
 #[derive(Clone, Copy)]

@@ -30,7 +30,7 @@ use Rattle.tk_query_conditions.specs.steps.Reading.{start, ended}
 use Rattle.std.specs.Str.{IsUtf8}
 use Rattle.std.specs.declared.alloc.AllocError.{AllocError}
 use Rattle.tk_ids.proofs.ReadingLemmas.{utf8_before, utf8_after, utf8_swap}
-use Rattle.tk_lemmas.proofs.Lists.{nil_from_length}
+use Rattle.tk_base.proofs.Lists.{nil_from_length}
 use Rattle.tk_query_conditions.specs.declared.readers.Reader.{Reader}
 use Rattle.tk_query_conditions.specs.declared.readers.Position.{Position}
 use Rattle.tk_query_conditions.specs.declared.readers.Position.TheVariants as positions

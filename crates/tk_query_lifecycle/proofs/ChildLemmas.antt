@@ -9,8 +9,8 @@ use Rattle.tk_events.specs.declared.kinds.Kind.{Kind}
 use Rattle.tk_events.specs.declared.kinds.Kind.TheVariants.{Dynamic, Skipped, Started, Finished, Reporting, File}
 use Rattle.tk_events.specs.declared.events.Entry.{Entry}
 use Rattle.tk_events.specs.declared.statuses.Status.TheVariants.{Successful}
-use Rattle.tk_record_columns.specs.Entries.{of_status, with_entry}
-use Rattle.tk_record_columns.specs.Recorded.{Recorded}
+use Rattle.tk_record.specs.Entries.{of_status, with_entry}
+use Rattle.tk_record.specs.Recorded.{Recorded}
 use Rattle.tk_query_lifecycle.specs.Lifecycle.{HasId, has_run}
 use Rattle.tk_query_lifecycle.specs.steps.KeyStates.{state_of, is_key, is_running, running_child}
 use Rattle.tk_query_lifecycle.specs.steps.KeyStates.{phase_after, advanced, refusal, children_after}

@@ -12,11 +12,11 @@ use Rattle.tk_events.specs.declared.payloads.Payload.{Payload}
 use Rattle.tk_events.specs.declared.payloads.Payload.TheVariants.{Described}
 use Rattle.tk_events.specs.declared.events.Entry.{Entry}
 use Rattle.tk_events.specs.Event.{is_lawful, kind_code}
-use Rattle.tk_record_columns.specs.Entries.{of_kind, described, registered, desc_in, desc, with_entry}
-use Rattle.tk_record_columns.specs.Recorded.{Recorded, without_entries}
-use Rattle.tk_record_columns.specs.Record.{fault_of, is_known, AreAppended, IsRecord}
-use Rattle.tk_record_columns.proofs.Registrations.{desc_more}
-use Rattle.tk_record_columns.proofs.Appending.{unknown_fault, plain_known}
+use Rattle.tk_record.specs.Entries.{of_kind, described, registered, desc_in, desc, with_entry}
+use Rattle.tk_record.specs.Recorded.{Recorded, without_entries}
+use Rattle.tk_record.specs.Record.{fault_of, is_known, AreAppended, IsRecord}
+use Rattle.tk_record.proofs.Registrations.{desc_more}
+use Rattle.tk_record.proofs.AppendedEntries.{unknown_fault, plain_known}
 use Rattle.tk_query_lifecycle.specs.Lifecycle.{HasId, first_entries}
 
 take_one_more : (es : List Entry) (p : ℕ) (e : Entry) → slice_get es p ≡ Some e → take (suc p) es ≡ take p es ++ e ∷ []

@@ -11,9 +11,9 @@ use Rattle.tk_ids.specs.declared.descriptors.Descriptor.{Descriptor}
 use Rattle.tk_ids.proofs.ReadingLemmas.{text_is_unique}
 use Rattle.tk_events.specs.declared.kinds.Kind.TheVariants.{Dynamic}
 use Rattle.tk_events.specs.declared.events.Entry.{Entry}
-use Rattle.tk_record_columns.specs.Entries.{of_kind, described, registered, desc_in, desc, with_entry}
-use Rattle.tk_record_columns.specs.Recorded.{Recorded, without_entries}
-use Rattle.tk_record_columns.proofs.Registrations.{desc_more}
+use Rattle.tk_record.specs.Entries.{of_kind, described, registered, desc_in, desc, with_entry}
+use Rattle.tk_record.specs.Recorded.{Recorded, without_entries}
+use Rattle.tk_record.proofs.Registrations.{desc_more}
 use Rattle.tk_query_lifecycle.specs.Lifecycle.{HasId}
 use Rattle.tk_query_lifecycle.specs.steps.KeyStates.{key_under}
 use Rattle.tk_query_lifecycle.specs.steps.Progress.{AreIds, AreNoted, IsFound}

@@ -13,8 +13,8 @@ use Rattle.tk_events.specs.declared.kinds.Kind.{Kind}
 use Rattle.tk_events.specs.declared.kinds.Kind.TheVariants.{Dynamic, Skipped, Started, Finished, Reporting, File}
 use Rattle.tk_events.specs.declared.events.Entry.{Entry}
 use Rattle.tk_events.specs.Event.{kind_code}
-use Rattle.tk_record_columns.specs.Entries.{of_kind, desc, with_entry}
-use Rattle.tk_record_columns.specs.Recorded.{Recorded}
+use Rattle.tk_record.specs.Entries.{of_kind, desc, with_entry}
+use Rattle.tk_record.specs.Recorded.{Recorded}
 use Rattle.tk_query_lifecycle.specs.Lifecycle.{is_event, has_event, has_run, runs, HasId, BreaksNone, NoneBreaks, IsInOrder, HasNoRunningParent, RunsAgain, EndsNothing, LeavesChild, first_entries}
 use Rattle.tk_query_lifecycle.specs.KeepsLifecycle.{is_step, steps_of, IsBelowRunning, KeepsLifecycle}
 use Rattle.tk_query_lifecycle.specs.LifecycleLaws.{InOrderByItsEvents, KeptByItsEvents}

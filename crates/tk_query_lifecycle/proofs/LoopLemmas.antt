@@ -5,11 +5,11 @@ use Rattle.std.proofs.lemmas.Bool.{true≢false}
 use Rattle.std.proofs.lemmas.List.{take_all}
 use Rattle.std.proofs.lemmas.Option.{same_Some}
 use Rattle.tk_events.specs.declared.events.Entry.{Entry}
-use Rattle.tk_record_columns.specs.declared.records.EntryView.{EntryView}
-use Rattle.tk_record_columns.specs.Record.{IsViewOf}
-use Rattle.tk_record_columns.specs.Recorded.{Recorded}
-use Rattle.tk_record_columns.specs.Record.{entry_of_view}
-use Rattle.tk_record_columns.proofs.Viewing.{shown_entry}
+use Rattle.tk_record.specs.declared.records.EntryView.{EntryView}
+use Rattle.tk_record.specs.Record.{IsViewOf}
+use Rattle.tk_record.specs.Recorded.{Recorded}
+use Rattle.tk_record.specs.Record.{entry_of_view}
+use Rattle.tk_record.proofs.RemainingEntries.{shown_entry}
 use Rattle.tk_query_lifecycle.specs.Lifecycle.{BreaksNone, NoneBreaks, IsInOrder, IsLifecycle, first_entries}
 use Rattle.tk_query_lifecycle.specs.steps.Progress.{IsFirstOfNeverRun, IsFirstOfRuns, IsProgress}
 use Rattle.tk_query_lifecycle.specs.steps.Progress.{IsTaken, next_event}

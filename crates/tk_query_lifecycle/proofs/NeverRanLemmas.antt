@@ -8,8 +8,8 @@ use Rattle.tk_ids.specs.declared.descriptors.Descriptor.{Descriptor}
 use Rattle.tk_events.specs.declared.kinds.Kind.TheVariants.{Skipped, Started}
 use Rattle.tk_events.specs.declared.statuses.Status.TheVariants.{Successful}
 use Rattle.tk_events.specs.declared.events.Entry.{Entry}
-use Rattle.tk_record_columns.specs.Entries.{of_kind, of_status}
-use Rattle.tk_record_columns.specs.Recorded.{Recorded}
+use Rattle.tk_record.specs.Entries.{of_kind, of_status}
+use Rattle.tk_record.specs.Recorded.{Recorded}
 use Rattle.tk_query_lifecycle.specs.Lifecycle.{HasId, has_event, has_run, is_event}
 use Rattle.tk_query_lifecycle.specs.NeverRan.{HasNoTurn, NeverRuns, Succeeds}
 use Rattle.tk_query_lifecycle.specs.steps.KeyStates.{is_idle, state_of}

@@ -2,13 +2,13 @@
 use Rattle.std.proofs.Common.{◌≡◌, ℕ, Bool, true, false, ◌&&◌, ◌||◌, not, List, [], ◌∷◌, ◌++◌, None, refl, sym, ap, ◌∙◌, subst, eq-eqb}
 use Rattle.std.specs.Prelude.{◌==◌}
 use Rattle.std.proofs.lemmas.List.Folds.{list_any-append}
-use Rattle.tk_lemmas.proofs.Truth.{or-false, and-true}
+use Rattle.tk_base.proofs.Truth.{or-false, and-true}
 use Rattle.tk_events.specs.declared.kinds.Kind.{Kind}
 use Rattle.tk_events.specs.declared.kinds.Kind.TheVariants.{Dynamic, Skipped, Started, Finished, Reporting, File}
 use Rattle.tk_events.specs.declared.events.Entry.{Entry}
 use Rattle.tk_events.specs.declared.statuses.Status.TheVariants.{Successful}
 use Rattle.tk_events.specs.Event.{kind_code}
-use Rattle.tk_record_columns.specs.Entries.{of_status}
+use Rattle.tk_record.specs.Entries.{of_status}
 use Rattle.tk_query_lifecycle.specs.Lifecycle.{is_event, has_event, has_run}
 use Rattle.tk_query_lifecycle.specs.steps.KeyStates.{phase_after, refusal}
 use Rattle.tk_query_lifecycle.specs.steps.Progress.{IsPhase, has_success, is_success}

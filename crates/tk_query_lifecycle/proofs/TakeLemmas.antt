@@ -2,8 +2,8 @@
 use Rattle.std.proofs.Common.{◌≡◌, ℕ, List, None, Ok, Err, Result, subst}
 use Rattle.tk_ids.specs.IdText.{SegmentView, IsId}
 use Rattle.tk_events.specs.declared.events.Entry.{Entry}
-use Rattle.tk_record_columns.specs.Entries.{with_entry}
-use Rattle.tk_record_columns.specs.Recorded.{Recorded}
+use Rattle.tk_record.specs.Entries.{with_entry}
+use Rattle.tk_record.specs.Recorded.{Recorded}
 use Rattle.tk_query_lifecycle.specs.Lifecycle.{HasId, BreaksFirst, KnowsId}
 use Rattle.tk_query_lifecycle.specs.steps.Progress.{AreAdvanced, AreNoted, IsChecked, IsProgress}
 use Rattle.tk_query_lifecycle.specs.steps.Progress.{IsTaken, next_event}

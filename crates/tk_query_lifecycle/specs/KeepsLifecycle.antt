@@ -21,8 +21,8 @@ use Rattle.tk_events.specs.declared.kinds.Kind.{Kind}
 use Rattle.tk_events.specs.declared.kinds.Kind.TheVariants.{Skipped, Started, Finished}
 use Rattle.tk_events.specs.declared.events.Entry.{Entry}
 use Rattle.tk_events.specs.Event.{kind_code}
-use Rattle.tk_record_columns.specs.Entries.{with_entry}
-use Rattle.tk_record_columns.specs.Recorded.{Recorded}
+use Rattle.tk_record.specs.Entries.{with_entry}
+use Rattle.tk_record.specs.Recorded.{Recorded}
 use Rattle.tk_query_lifecycle.specs.Lifecycle.{HasId, KnowsId, first_entries, runs}
 
 -- whether it is the kind of a start, a skip or a finish

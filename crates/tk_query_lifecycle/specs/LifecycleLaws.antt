@@ -1,6 +1,6 @@
 -- What follows from the definition of a record's lifecycle.
 use Rattle.std.specs.Prelude.{◌≡◌, ◌↔◌, ℕ, ◌+◌, take}
-use Rattle.tk_record_columns.specs.Recorded.{Recorded}
+use Rattle.tk_record.specs.Recorded.{Recorded}
 use Rattle.tk_ids.specs.Table.{AreDifferent}
 use Rattle.tk_query_lifecycle.specs.KeepsLifecycle.{KeepsLifecycle}
 use Rattle.tk_query_lifecycle.specs.NeverRan.{EachChildRuns}

@@ -5,8 +5,8 @@ use Rattle.tk_ids.specs.declared.descriptors.Descriptor.{Descriptor}
 use Rattle.tk_events.specs.declared.kinds.Kind.TheVariants.{Skipped, Started}
 use Rattle.tk_events.specs.declared.statuses.Status.TheVariants.{Successful}
 use Rattle.tk_events.specs.declared.events.Entry.{Entry}
-use Rattle.tk_record_columns.specs.Entries.{desc, of_kind, of_status}
-use Rattle.tk_record_columns.specs.Recorded.{Recorded}
+use Rattle.tk_record.specs.Entries.{desc, of_kind, of_status}
+use Rattle.tk_record.specs.Recorded.{Recorded}
 
 -- an event of the record finishes the key successfully
 pub record Succeeds (r : Recorded) (key : ℕ) : Type 0 where

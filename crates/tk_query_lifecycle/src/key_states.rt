@@ -1,15 +1,15 @@
 //! What is kept of each key while the events of a record are gone through.
 ghost use Rattle.std.specs.Prelude.{◌≡◌, ℕ, ◌≤◌, ◌^◌, [], length, not, OnOk};
 ghost use Rattle.tk_events.specs.declared.statuses.Status.TheVariants.{Successful};
-ghost use Rattle.tk_record_columns.specs.Entries.{of_status};
-ghost use Rattle.tk_record_columns.specs.Record.{entry_of_view};
+ghost use Rattle.tk_record.specs.Entries.{of_status};
+ghost use Rattle.tk_record.specs.Record.{entry_of_view};
 ghost use Rattle.tk_query_lifecycle.specs.steps.KeyStates.{idle, is_idle, is_running, state_of, advanced, refusal, ArePut, IsCounted, IsFirstRunning};
 
 use crate::lifecycle_rules::LifecycleRule;
 use std::alloc::{AllocError, Global};
 use std::marker::Model;
 use tk_events::{Kind, Payload, Status};
-use tk_record_columns::EntryView;
+use tk_record::EntryView;
 
 /// Where a key is in its execution.
 #[derive(Clone, Copy)]

@@ -5,7 +5,7 @@ ghost use Rattle.tk_query_lifecycle.specs.Lifecycle.{IsLifecycle};
 use crate::lifecycle_rules::Lifecycle;
 use crate::progress::Progress;
 use std::alloc::{AllocError, Global};
-use tk_record_columns::Record;
+use tk_record::Record;
 
 /// Says whether the record keeps the lifecycle, and where it first doesn't.
 ///

@@ -3,9 +3,9 @@ ghost use Rattle.std.specs.Prelude.{◌≡◌, ℕ, ◌≤◌, length, Some, IfO
 ghost use Rattle.tk_ids.specs.IdText.{IsId};
 ghost use Rattle.tk_events.specs.declared.kinds.Kind.TheVariants.{Dynamic};
 ghost use Rattle.tk_ids.specs.Table.{AreDifferent};
-ghost use Rattle.tk_record_columns.specs.Entries.{of_kind, with_entry};
-ghost use Rattle.tk_record_columns.specs.Recorded.{Recorded};
-ghost use Rattle.tk_record_columns.specs.Record.{entry_of_view};
+ghost use Rattle.tk_record.specs.Entries.{of_kind, with_entry};
+ghost use Rattle.tk_record.specs.Recorded.{Recorded};
+ghost use Rattle.tk_record.specs.Record.{entry_of_view};
 ghost use Rattle.tk_query_lifecycle.specs.Lifecycle.{HasId, first_entries};
 ghost use Rattle.tk_query_lifecycle.specs.steps.Progress.{AreAdvanced, AreIds, AreNoted, IsChecked, IsFirstOfNeverRun, IsFirstOfRuns, IsFound, IsKnownId, IsKnownParent, IsProgress, IsSought, IsTaken, IsWhetherNeverRun, has_succeeded, is_at_rest, missing_parent, next_event};
 ghost use Rattle.tk_query_lifecycle.specs.steps.KeyStates.{state_of};
@@ -16,7 +16,7 @@ use crate::registered_ids::RegisteredIds;
 use std::alloc::{AllocError, Global};
 use tk_events::Kind;
 use tk_ids::{Descriptor, UniqueId};
-use tk_record_columns::{EntryView, Record};
+use tk_record::{EntryView, Record};
 
 /// What is known after the first events of a record.
 #[derive(Drop)]

@@ -5,10 +5,10 @@ use Rattle.std.specs.List.{slice_get}
 use Rattle.std.proofs.lemmas.Bool.{cases_lt, true≢false}
 use Rattle.std.proofs.lemmas.List.{take-map}
 use Rattle.std.proofs.lemmas.Option.{none-some}
-use Rattle.tk_lemmas.proofs.Lists.{get_below}
+use Rattle.tk_base.proofs.Lists.{get_below}
 use Rattle.tk_lanes.specs.Flags.{IsNextSet, IsNoneSet}
-use Rattle.tk_record_columns.specs.Recorded.{Recorded}
-use Rattle.tk_record_columns.specs.Selections.{Selected}
+use Rattle.tk_record.specs.Recorded.{Recorded}
+use Rattle.tk_record.specs.Selections.{Selected}
 use Rattle.tk_query_conditions.specs.Cond.{Cond}
 use Rattle.tk_query_nearest.specs.Parts.{distance}
 use Rattle.tk_query.proofs.AskedLemmas.{AreFlags, asked_set, asked_clear}

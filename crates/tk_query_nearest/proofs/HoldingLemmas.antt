@@ -13,8 +13,8 @@ use Rattle.tk_events.specs.declared.payloads.Payload.{Payload}
 use Rattle.tk_events.specs.declared.payloads.Payload.TheVariants as payload
 use Rattle.tk_events.specs.declared.events.Entry.{Entry}
 use Rattle.tk_events.specs.Event.{kind_code, status_code}
-use Rattle.tk_record_columns.specs.Entries.{of_kind, of_status, status_number, desc}
-use Rattle.tk_record_columns.specs.Recorded.{Recorded}
+use Rattle.tk_record.specs.Entries.{of_kind, of_status, status_number, desc}
+use Rattle.tk_record.specs.Recorded.{Recorded}
 use Rattle.tk_query_conditions.specs.Cond.{Test, Container, Engine, Started, Succeeded, Failed, Aborted, Id, Name, Skipped, FailedWith, AbortedWith, File, Cond, Plain, With, OfKind, HasPairs, All, Any, Not}
 use Rattle.tk_query_conditions.specs.Reading.{begins_with}
 use Rattle.tk_query.specs.Holds.{cond_holds, has_descriptor, has_message, has_path, has_reason, has_within, pairs_list, reports}

@@ -3,9 +3,9 @@ use Rattle.std.proofs.Common.{◌≡◌, not, ◌&&◌, refl, sym, ap, ◌∙◌
 use Rattle.std.specs.List.{list_all}
 use Rattle.std.proofs.lemmas.List.Folds.{list_all-append}
 use Rattle.std.proofs.lemmas.Bool.{not-true}
-use Rattle.tk_lemmas.proofs.Truth.{and-true}
+use Rattle.tk_base.proofs.Truth.{and-true}
 use Rattle.tk_events.specs.declared.events.Entry.{Entry}
-use Rattle.tk_record_columns.specs.Recorded.{Recorded}
+use Rattle.tk_record.specs.Recorded.{Recorded}
 use Rattle.tk_query_conditions.specs.Cond.{Plain, With, OfKind, HasPairs, All, Any, Not, Conds, Nothing, More}
 use Rattle.tk_query.specs.Holds.{cond_holds, all_hold}
 use Rattle.tk_query_nearest.specs.Members.{members, members_of}

@@ -5,7 +5,7 @@ use Rattle.std.proofs.lemmas.List.Sums.{sum_by-append}
 use Rattle.std.proofs.lemmas.Grind.{flat_map-append}
 use Rattle.tk_events.specs.declared.events.Entry.{Entry}
 use Rattle.tk_events.specs.declared.kinds.Kind.TheVariants as kind
-use Rattle.tk_record_columns.specs.Recorded.{Recorded}
+use Rattle.tk_record.specs.Recorded.{Recorded}
 use Rattle.tk_query_conditions.specs.Cond.{Test, Container, Engine, Started, Succeeded, Failed, Aborted, Id, Name, Skipped, FailedWith, AbortedWith, File, Cond, Plain, With, OfKind, HasPairs, All, Any, Not, Conds, More}
 use Rattle.tk_query.specs.Holds.{cond_holds}
 use Rattle.tk_query_nearest.specs.Members.{members, members_of}

@@ -1,12 +1,12 @@
 -- The entry at a position, and the view of it.
 use Rattle.std.proofs.Common.{◌≡◌, ℕ, zero, suc, ◌<◌, List, [], ◌∷◌, length, Option, Some, None, IfSome, MatchOption, refl, sym, ap, ◌∙◌, subst, arith}
 use Rattle.std.specs.List.{slice_get}
-use Rattle.tk_lemmas.proofs.Lists.{get_below}
+use Rattle.tk_base.proofs.Lists.{get_below}
 use Rattle.tk_events.specs.declared.events.Entry.{Entry}
-use Rattle.tk_record_columns.specs.Recorded.{Recorded}
-use Rattle.tk_record_columns.specs.Record.{entry_of_view, IsViewOf}
-use Rattle.tk_record_columns.specs.declared.records.EntryView.{EntryView}
-use Rattle.tk_record_columns.proofs.Viewing.{shown_entry}
+use Rattle.tk_record.specs.Recorded.{Recorded}
+use Rattle.tk_record.specs.Record.{entry_of_view, IsViewOf}
+use Rattle.tk_record.specs.declared.records.EntryView.{EntryView}
+use Rattle.tk_record.proofs.RemainingEntries.{shown_entry}
 use Rattle.tk_query_conditions.specs.Cond.{Cond}
 use Rattle.tk_query_nearest.specs.Parts.{distance}
 use Rattle.tk_query_nearest.specs.Nearness.{distance_of}

@@ -1,7 +1,7 @@
 -- The members of a condition, and which of them don't hold of an event.
 use Rattle.std.specs.Prelude.{ℕ, not, List, [], ◌∷◌, ◌++◌, codes, filter, flat_map}
 use Rattle.tk_events.specs.declared.events.Entry.{Entry}
-use Rattle.tk_record_columns.specs.Recorded.{Recorded}
+use Rattle.tk_record.specs.Recorded.{Recorded}
 use Rattle.tk_query_conditions.specs.Cond.{Cond, All, Conds, Nothing, More, cond_text}
 use Rattle.tk_query.specs.Holds.{cond_holds}
 

@@ -15,8 +15,8 @@ use Rattle.std.specs.Prelude.{
   Contains,
 }
 use Rattle.tk_events.specs.declared.events.Entry.{Entry}
-use Rattle.tk_record_columns.specs.Recorded.{Recorded}
-use Rattle.tk_record_columns.specs.Selections.{Selected}
+use Rattle.tk_record.specs.Recorded.{Recorded}
+use Rattle.tk_record.specs.Selections.{Selected}
 use Rattle.tk_query_conditions.specs.Cond.{Cond}
 use Rattle.tk_query.specs.Asked.{event_at}
 use Rattle.tk_query_nearest.specs.Parts.{distance}

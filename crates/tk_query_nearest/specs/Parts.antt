@@ -17,8 +17,8 @@ use Rattle.tk_events.specs.declared.kinds.Kind.TheVariants as kind
 use Rattle.tk_events.specs.declared.payloads.Payload.{Payload}
 use Rattle.tk_events.specs.declared.payloads.Payload.TheVariants.{Reason, Outcome, Path}
 use Rattle.tk_events.specs.declared.events.Entry.{Entry}
-use Rattle.tk_record_columns.specs.Entries.{of_kind, desc}
-use Rattle.tk_record_columns.specs.Recorded.{Recorded}
+use Rattle.tk_record.specs.Entries.{of_kind, desc}
+use Rattle.tk_record.specs.Recorded.{Recorded}
 use Rattle.tk_query_conditions.specs.Cond.{
   Succeeded,
   Failed,

@@ -1,6 +1,6 @@
 //! The members of a condition that don't hold of an event.
 ghost use Rattle.std.specs.Prelude.{◌≡◌, ◌∷◌, [], not, filter, IfOk, OnOk, string_bytes};
-ghost use Rattle.tk_record_columns.specs.Record.{entry_of_view};
+ghost use Rattle.tk_record.specs.Record.{entry_of_view};
 ghost use Rattle.tk_query.specs.Holds.{cond_holds};
 ghost use Rattle.tk_query_conditions.specs.Cond.{All, Nothing};
 ghost use Rattle.tk_query_conditions.specs.CondOf.{cond_of};
@@ -12,7 +12,7 @@ use std::alloc::{AllocError, Global};
 use tk_ids::Text;
 use tk_query::holds;
 use tk_query_conditions::{Condition, write_condition};
-use tk_record_columns::{EntryView, Record};
+use tk_record::{EntryView, Record};
 
 /// Writes a comma and a blank where something stands before them.
 fn push_separator(out: &mut String) -> Result<(), AllocError>

@@ -1,7 +1,7 @@
 //! How many parts of a condition don't hold of an event.
 ghost use Rattle.std.specs.Prelude.{◌≡◌, ◌≤◌, ◌+◌, if◌then◌else◌, slice_get, MatchOption};
-ghost use Rattle.tk_record_columns.specs.Entries.{of_kind, of_status, desc};
-ghost use Rattle.tk_record_columns.specs.Record.{entry_of_view};
+ghost use Rattle.tk_record.specs.Entries.{of_kind, of_status, desc};
+ghost use Rattle.tk_record.specs.Record.{entry_of_view};
 ghost use Rattle.tk_query_conditions.specs.Cond.{All, Nothing};
 ghost use Rattle.tk_query_conditions.specs.CondOf.{cond_of};
 ghost use Rattle.tk_query_conditions.specs.steps.CondOf.{conds_from};
@@ -12,7 +12,7 @@ use tk_events::{Kind, Payload, Status};
 use tk_ids::Text;
 use tk_query::holds;
 use tk_query_conditions::Condition;
-use tk_record_columns::{EntryView, Record};
+use tk_record::{EntryView, Record};
 
 /// Where the count of missing parts ends.
 pub const MAX_DISTANCE: usize = 18_446_744_073_709_551_615;

@@ -5,7 +5,7 @@ ghost use Rattle.tk_query_nearest.specs.Nearness.{IsNearest};
 use crate::candidates::{Candidate, Candidates, Nearest};
 use crate::parts::distance_at;
 use tk_query_conditions::Condition;
-use tk_record_columns::Events;
+use tk_record::Events;
 
 /// Finds the three events that come nearest to a condition, or all if there are fewer, of those
 /// that stand at the position `first` or after it.

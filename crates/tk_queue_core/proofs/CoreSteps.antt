@@ -4,7 +4,7 @@ use Rattle.std.proofs.lemmas.List.{map-append}
 use Rattle.std.proofs.lemmas.Bool.{cases_eq}
 use Rattle.std.specs.Prelude.{filter}
 use Rattle.tk_events.specs.declared.events.Event.{Event}
-use Rattle.tk_record_columns.specs.Mixing.{IsWorkerOf}
+use Rattle.tk_record.specs.Mixing.{IsWorkerOf}
 use Rattle.tk_queue_core.specs.declared.items.Item.{Item}
 use Rattle.tk_queue_core.specs.declared.items.Item.TheVariants.{Entry as Emitted, End}
 use Rattle.tk_queue_core.specs.Core.{Core, IsCore, worker_of, items_of, entry, script, put, emit, finish, push, take_first}

@@ -1,6 +1,6 @@
 -- How many workers a session may have.
 use Rattle.std.specs.Prelude.{ℕ, ◌+◌}
-use Rattle.tk_limits.specs.declared.limits.TheConstants.{MAX_WORKERS}
+use Rattle.tk_base.specs.declared.limits.TheConstants.{MAX_WORKERS}
 
 -- the workers are 1 to this at most
 abbrev pub most_workers : ℕ

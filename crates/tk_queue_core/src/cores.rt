@@ -1,6 +1,6 @@
 //! The core of a session's queue, as a plain machine without threads.
 ghost use Rattle.std.specs.Prelude.{◌≡◌, ◌<◌, ◌≤◌, ◌∷◌, [], true, false, IfOk, OnOk, OnErr, IfErr, MatchOption, MatchResult, length, Some};
-ghost use Rattle.tk_record_columns.specs.Mixing.{IsWorkerOf};
+ghost use Rattle.tk_record.specs.Mixing.{IsWorkerOf};
 ghost use Rattle.tk_queue_core.specs.CoreState.{has_ended, emits, ends, fresh, with_first, IsCoreFault};
 ghost use Rattle.tk_queue_core.specs.FaultTexts.{core_fault_text};
 
@@ -10,7 +10,8 @@ use std::collections::VecDeque;
 use std::error::Error;
 use std::fmt;
 use std::marker::Model;
-use tk_events::{Entry, Event, MAX_WORKERS};
+use tk_base::MAX_WORKERS;
+use tk_events::{Entry, Event};
 
 /// Why the core refuses a worker's event or end mark.
 #[derive(Clone, Copy, Debug, PartialEq, Eq)]

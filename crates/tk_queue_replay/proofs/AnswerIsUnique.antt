@@ -5,16 +5,16 @@ use Rattle.std.proofs.lemmas.List.{append_cancel_left}
 use Rattle.tk_ids.specs.declared.descriptors.Descriptor.{Descriptor}
 use Rattle.tk_events.specs.declared.events.Event.{Event}
 use Rattle.tk_events.specs.declared.events.Entry.{Entry}
-use Rattle.tk_record_columns.specs.Recorded.{Recorded}
-use Rattle.tk_record.specs.Spelling.{node_line, entry_line}
-use Rattle.tk_record.specs.declared.versions.Version.{Version}
-use Rattle.tk_record.specs.steps.Reading.{in_line}
-use Rattle.tk_record.specs.Text.{with_line_feed, nodes_text, entries_text, AreNodes}
-use Rattle.tk_record.specs.NodeLines.{LacksNode}
-use Rattle.tk_record.proofs.Forms.{one_value}
-use Rattle.tk_record.proofs.AnswerIsUnique.{same_entry, cons_same, one_nodes}
-use Rattle.tk_record.proofs.Headers.{one_header}
-use Rattle.tk_record.proofs.After.{same_line, regroup, no_node_at_entry, node_begins, cells}
+use Rattle.tk_record.specs.Recorded.{Recorded}
+use Rattle.tk_record_text.specs.Spelling.{node_line, entry_line}
+use Rattle.tk_record_text.specs.declared.versions.Version.{Version}
+use Rattle.tk_record_text.specs.steps.Reading.{in_line}
+use Rattle.tk_record_text.specs.Text.{with_line_feed, nodes_text, entries_text, AreNodes}
+use Rattle.tk_record_text.specs.NodeLines.{LacksNode}
+use Rattle.tk_record_text.proofs.Forms.{one_value}
+use Rattle.tk_record_text.proofs.AnswerIsUnique.{same_entry, cons_same, one_nodes}
+use Rattle.tk_record_text.proofs.Headers.{one_header}
+use Rattle.tk_record_text.proofs.After.{same_line, regroup, no_node_at_entry, node_begins, cells}
 use Rattle.tk_queue_replay.specs.declared.turns.Turn.{Turn}
 use Rattle.tk_queue_replay.specs.declared.replays.ReplayFault.{ReplayFault}
 use Rattle.tk_queue_replay.specs.declared.replays.ReplayFault.TheVariants as faults

@@ -10,10 +10,10 @@ use Rattle.tk_ids.specs.declared.descriptors.Descriptor.{Descriptor}
 use Rattle.std.proofs.lemmas.Bool.{cases_eq}
 use Rattle.tk_events.specs.declared.events.Event.{Event}
 use Rattle.tk_events.specs.declared.events.Entry.{Entry}
-use Rattle.tk_record_columns.specs.declared.records.AppendFault.{AppendFault}
-use Rattle.tk_record_columns.specs.Recorded.{Recorded}
-use Rattle.tk_record_columns.specs.Record.{fault_of}
-use Rattle.tk_record_columns.specs.Mixing.{IsWorkerOf}
+use Rattle.tk_record.specs.declared.records.AppendFault.{AppendFault}
+use Rattle.tk_record.specs.Recorded.{Recorded}
+use Rattle.tk_record.specs.Record.{fault_of}
+use Rattle.tk_record.specs.Mixing.{IsWorkerOf}
 use Rattle.tk_queue_core.specs.Limits.{most_workers, worker_slots}
 use Rattle.tk_queue_core.specs.declared.items.Item.{Item}
 use Rattle.tk_queue_core.specs.declared.items.Item.TheVariants.{Entry as Emitted, End}

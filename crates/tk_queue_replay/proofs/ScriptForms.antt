@@ -9,20 +9,20 @@ use Rattle.std.proofs.lemmas.Str.Parse.{digit_from_value}
 use Rattle.std.proofs.lemmas.Bool.{ltb-true, leb-true, lt-ltb, le-leb, and_parts}
 use Rattle.std.proofs.lemmas.Option.{same_Some, none-some}
 use Rattle.tk_ids.proofs.ReadingLemmas.{cond_cases}
-use Rattle.tk_record_columns.specs.Mixing.{IsWorkerOf}
+use Rattle.tk_record.specs.Mixing.{IsWorkerOf}
 use Rattle.tk_queue_core.specs.Limits.{most_workers}
 use Rattle.tk_queue_replay.specs.declared.turns.Turn.{Turn}
 use Rattle.tk_queue_replay.specs.declared.turns.Turn.TheVariants.{Worker, Take}
 use Rattle.tk_queue_replay.specs.Replay.{IsTurn}
-use Rattle.tk_record.specs.steps.Form.{IsForm}
-use Rattle.tk_record.specs.Reading.{number_of}
-use Rattle.tk_record.specs.steps.Reading.{◌>>=◌, in_line}
-use Rattle.tk_record.proofs.Choices.{guarded, stepped, same_bytes}
-use Rattle.tk_record.proofs.NumberForms.{number_found, number_again}
-use Rattle.tk_record.proofs.Clean.{is_false}
-use Rattle.tk_record.proofs.TailForms.{IsField, word, decimal_field}
-use Rattle.tk_record.specs.NodeLines.{LacksFeed}
-use Rattle.tk_record.proofs.LineForms.{line_form, line_no_feed}
+use Rattle.tk_record_text.specs.steps.Form.{IsForm}
+use Rattle.tk_record_text.specs.Reading.{number_of}
+use Rattle.tk_record_text.specs.steps.Reading.{◌>>=◌, in_line}
+use Rattle.tk_record_text.proofs.Choices.{guarded, stepped, same_bytes}
+use Rattle.tk_record_text.proofs.NumberForms.{number_found, number_again}
+use Rattle.tk_record_text.proofs.Clean.{is_false}
+use Rattle.tk_record_text.proofs.TailForms.{IsField, word, decimal_field}
+use Rattle.tk_record_text.specs.NodeLines.{LacksFeed}
+use Rattle.tk_record_text.proofs.LineForms.{line_form, line_no_feed}
 use Rattle.tk_queue_replay.specs.Script.{workers_fields, IsCount, workers_line, turn_field}
 use Rattle.tk_queue_replay.specs.Script.{turns_fields, AreTurns, turns_line}
 use Rattle.tk_queue_replay.specs.steps.Script.{within, worker_of, workers_of, turn_of, turns_from}

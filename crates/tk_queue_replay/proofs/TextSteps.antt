@@ -9,19 +9,19 @@ use Rattle.std.proofs.lemmas.Bool.Decides.{Decides-eqb}
 use Rattle.tk_ids.specs.declared.descriptors.Descriptor.{Descriptor}
 use Rattle.tk_events.specs.declared.events.Event.{Event}
 use Rattle.tk_events.specs.declared.events.Entry.{Entry}
-use Rattle.tk_record_columns.specs.Mixing.{IsWorkerOf, of_worker}
-use Rattle.tk_record_columns.specs.Recorded.{Recorded}
-use Rattle.tk_record.specs.Spelling.{joined, entry_line, HasEntryLine}
-use Rattle.tk_record.specs.declared.versions.Version.{Version}
-use Rattle.tk_record.specs.Versions.{HasLineIn}
-use Rattle.tk_record.specs.steps.Reading.{in_line, entry_of}
-use Rattle.tk_record.specs.Text.{with_line_feed, nodes_text, entries_text}
-use Rattle.tk_record.specs.NodeLines.{LacksFeed, LacksNodeStart, IsNodesPrefix, IsNodesFault}
-use Rattle.tk_record.specs.declared.reading.node_lines.NodesFault.{NodesFault}
-use Rattle.tk_record.specs.declared.reading.node_lines.NodesFault.TheVariants as listing
-use Rattle.tk_record.proofs.Forms.{one_value}
-use Rattle.tk_record.proofs.RecordLines.{entry_line_form, entry_no_feed}
-use Rattle.tk_record.proofs.After.{same_line, regroup, feed_stands, no_entry_at_node, no_node_start, cells}
+use Rattle.tk_record.specs.Mixing.{IsWorkerOf, of_worker}
+use Rattle.tk_record.specs.Recorded.{Recorded}
+use Rattle.tk_record_text.specs.Spelling.{joined, entry_line, HasEntryLine}
+use Rattle.tk_record_text.specs.declared.versions.Version.{Version}
+use Rattle.tk_record_text.specs.Versions.{HasLineIn}
+use Rattle.tk_record_text.specs.steps.Reading.{in_line, entry_of}
+use Rattle.tk_record_text.specs.Text.{with_line_feed, nodes_text, entries_text}
+use Rattle.tk_record_text.specs.NodeLines.{LacksFeed, LacksNodeStart, IsNodesPrefix, IsNodesFault}
+use Rattle.tk_record_text.specs.declared.reading.node_lines.NodesFault.{NodesFault}
+use Rattle.tk_record_text.specs.declared.reading.node_lines.NodesFault.TheVariants as listing
+use Rattle.tk_record_text.proofs.Forms.{one_value}
+use Rattle.tk_record_text.proofs.RecordLines.{entry_line_form, entry_no_feed}
+use Rattle.tk_record_text.proofs.After.{same_line, regroup, feed_stands, no_entry_at_node, no_node_start, cells}
 use Rattle.tk_queue_replay.specs.declared.turns.Turn.{Turn}
 use Rattle.tk_queue_replay.specs.declared.replays.Replayed.{Replayed}
 use Rattle.tk_queue_replay.specs.declared.replays.ReplayFault.{ReplayFault}

@@ -5,7 +5,7 @@ use Rattle.std.proofs.lemmas.Bool.{cases_eq}
 use Rattle.std.proofs.lemmas.List.{length-map}
 use Rattle.std.proofs.lemmas.List.Sums.{sum_by_push, sum_by-append, sum_by-cons}
 use Rattle.std.proofs.lemmas.Option.{same_Some, none-some}
-use Rattle.tk_record_columns.proofs.Registrations.{slice_get_prefix, slice_get_last}
+use Rattle.tk_record.proofs.Registrations.{slice_get_prefix, slice_get_last}
 use Rattle.tk_events.specs.declared.events.Event.{Event}
 use Rattle.tk_queue_core.specs.declared.items.Item.{Item}
 use Rattle.tk_queue_core.specs.declared.items.Item.TheVariants.{End}

@@ -1,7 +1,7 @@
 -- The texts of the faults.
 use Rattle.std.specs.Prelude.{ℕ, List, ◌++◌, codes}
 use Rattle.std.specs.Fmt.{decimal}
-use Rattle.tk_record_columns.specs.FaultTexts.{append_fault_text}
+use Rattle.tk_record.specs.FaultTexts.{append_fault_text}
 use Rattle.tk_queue_replay.specs.declared.replays.ReplayFault.{ReplayFault}
 use Rattle.tk_queue_replay.specs.declared.replays.ReplayFault.TheVariants as replays
 

@@ -27,17 +27,17 @@ use Rattle.tk_ids.specs.declared.descriptors.Descriptor.{Descriptor}
 use Rattle.tk_ids.specs.Table.{TakesNext}
 use Rattle.tk_events.specs.declared.events.Event.{Event}
 use Rattle.tk_events.specs.declared.events.Entry.{Entry}
-use Rattle.tk_record_columns.specs.Recorded.{Recorded}
-use Rattle.tk_record_columns.specs.Mixing.{IsWorkerOf, of_worker}
-use Rattle.tk_record.specs.declared.reading.TheConstants.{MAX_TEXT}
-use Rattle.tk_record.specs.declared.versions.Version.{Version}
-use Rattle.tk_record.specs.Versions.{HasLineIn, header_of}
-use Rattle.tk_record.specs.Spelling.{node_line, entry_line, IsDescriptor}
-use Rattle.tk_record.specs.Text.{with_line_feed, nodes_text, entries_text, AreNodes, text}
-use Rattle.tk_record.specs.declared.reading.node_lines.NodesFault.{NodesFault}
-use Rattle.tk_record.specs.declared.reading.node_lines.NodesFault.TheVariants as listing
-use Rattle.tk_record.specs.declared.writing.WriteFault.{WriteFault}
-use Rattle.tk_record.specs.declared.writing.WriteFault.TheVariants as writing
+use Rattle.tk_record.specs.Recorded.{Recorded}
+use Rattle.tk_record.specs.Mixing.{IsWorkerOf, of_worker}
+use Rattle.tk_record_text.specs.declared.reading.TheConstants.{MAX_TEXT}
+use Rattle.tk_record_text.specs.declared.versions.Version.{Version}
+use Rattle.tk_record_text.specs.Versions.{HasLineIn, header_of}
+use Rattle.tk_record_text.specs.Spelling.{node_line, entry_line, IsDescriptor}
+use Rattle.tk_record_text.specs.Text.{with_line_feed, nodes_text, entries_text, AreNodes, text}
+use Rattle.tk_record_text.specs.declared.reading.node_lines.NodesFault.{NodesFault}
+use Rattle.tk_record_text.specs.declared.reading.node_lines.NodesFault.TheVariants as listing
+use Rattle.tk_record_text.specs.declared.writing.WriteFault.{WriteFault}
+use Rattle.tk_record_text.specs.declared.writing.WriteFault.TheVariants as writing
 use Rattle.tk_streams.specs.Stream.{AppendsPrefix}
 use Rattle.tk_streams.specs.declared.transfers.LoadFault.{LoadFault}
 use Rattle.tk_streams.specs.declared.transfers.LoadFault.TheVariants as loading

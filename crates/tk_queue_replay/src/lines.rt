@@ -1,12 +1,12 @@
 //! The lines of a replay text that no record text has, without their line feeds.
 ghost use Rattle.std.specs.Prelude.{◌≡◌, ◌∷◌, IfOk, MatchOption, None, Some};
-ghost use Rattle.tk_record.specs.steps.Reading.{in_line};
+ghost use Rattle.tk_record_text.specs.steps.Reading.{in_line};
 ghost use Rattle.tk_queue_replay.specs.steps.Script.{worker_of, workers_of, turn_of, turns_from, turns_of};
 
 use crate::turns::Turn;
 use std::alloc::{AllocError, Global};
-use tk_events::MAX_WORKERS;
-use tk_record::{Fields, read_u8};
+use tk_base::MAX_WORKERS;
+use tk_record_text::{Fields, read_u8};
 
 // Reads the number of a worker, 1 to `workers`.
 fn read_worker(field: &[u8], workers: u8) -> Option<u8>

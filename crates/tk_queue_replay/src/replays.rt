@@ -1,8 +1,8 @@
 //! Replays of scripts by turns.
 ghost use Rattle.std.specs.Prelude.{◌≡◌, ◌<◌, ◌≤◌, ◌-◌, ◌⊎◌, ℕ, List, [], map, All, true, false, Ok, Err, IfOk, OnOk, OnErr, IfErr, slice_get, length, Some};
 ghost use Rattle.std.specs.Arc.{arc_value};
-ghost use Rattle.tk_record_columns.specs.Entries.{with_entry};
-ghost use Rattle.tk_record_columns.specs.Mixing.{IsWorkerOf};
+ghost use Rattle.tk_record.specs.Entries.{with_entry};
+ghost use Rattle.tk_record.specs.Mixing.{IsWorkerOf};
 ghost use Rattle.tk_queue_core.specs.CoreState.{has_ended, fresh};
 ghost use Rattle.tk_queue_replay.specs.Replay.{IsReplayed, IsTurn, next, count_of, take_item, turn_step, Refuses, start};
 ghost use Rattle.tk_queue_replay.specs.steps.Replay.{refusal, IsStop, Suits, IsMemory};
@@ -15,11 +15,12 @@ use std::error::Error;
 use std::fmt;
 use std::marker::Model;
 use std::sync::Arc;
-use tk_events::{Event, MAX_WORKERS};
+use tk_base::MAX_WORKERS;
+use tk_events::Event;
 use tk_ids::Table;
 use tk_queue_core::{Core, CoreFault, Item};
-use tk_record::{NodesFault, WriteFault};
-use tk_record_columns::{AppendFault, Record};
+use tk_record::{AppendFault, Record};
+use tk_record_text::{NodesFault, WriteFault};
 use tk_streams::LoadFault;
 
 /// Why a replay has no result.

@@ -5,14 +5,14 @@ use Rattle.std.specs.Option.{option_or}
 use Rattle.std.proofs.lemmas.Bool.{cases_eq, lt-ltb, le-ltb}
 use Rattle.std.proofs.lemmas.Option.{slice_get_within}
 use Rattle.std.proofs.lemmas.List.Sums.{sum_by-cons}
-use Rattle.tk_lemmas.proofs.Options.{is_some-option_or, option_or-assoc}
+use Rattle.tk_base.proofs.Options.{is_some-option_or, option_or-assoc}
 use Rattle.tk_ids.specs.declared.descriptors.Descriptor.{Descriptor}
 use Rattle.tk_events.specs.declared.kinds.Kind.TheVariants.{Dynamic}
 use Rattle.tk_events.specs.declared.events.Event.{Event}
 use Rattle.tk_events.specs.declared.events.Entry.{Entry}
-use Rattle.tk_record_columns.specs.Entries.{of_kind, registers, registered, desc, desc_in}
-use Rattle.tk_record_columns.specs.Record.{is_next, is_known}
-use Rattle.tk_record_columns.specs.Mixing.{of_worker}
+use Rattle.tk_record.specs.Entries.{of_kind, registers, registered, desc, desc_in}
+use Rattle.tk_record.specs.Record.{is_next, is_known}
+use Rattle.tk_record.specs.Mixing.{of_worker}
 use Rattle.tk_queue_core.proofs.ListCuts.{cut_last, never}
 use Rattle.tk_queue_session.specs.Limits.{most_events}
 use Rattle.tk_queue_session.specs.Emission.{entry_by, entries_by, is_known_after, MayEmit, Emission}

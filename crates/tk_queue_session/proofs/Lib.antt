@@ -1,6 +1,6 @@
 pub mod SharedSteps
 pub mod RuleSteps
-pub mod Closing
+pub mod CloseConclusions
 pub mod KnownKeys
 pub mod SenderSteps
 pub mod ReceiverSteps

@@ -4,16 +4,16 @@ use Rattle.std.specs.Prelude.{slice_index_or, filter, nat_lt, is_some, nat_le}
 use Rattle.std.proofs.lemmas.Bool.{cases_eq, or_right}
 use Rattle.std.proofs.lemmas.List.{map-append, get_or-set_same, get_or-set_other}
 use Rattle.std.proofs.lemmas.List.Elements.{All-push}
-use Rattle.tk_lemmas.proofs.Truth.{or-false}
+use Rattle.tk_base.proofs.Truth.{or-false}
 use Rattle.tk_ids.specs.declared.descriptors.Descriptor.{Descriptor}
 use Rattle.tk_ids.specs.declared.tables.TheConstants.{MAX_DESCRIPTORS}
 use Rattle.tk_events.specs.declared.kinds.Kind.TheVariants.{Dynamic}
 use Rattle.tk_events.specs.declared.events.Event.{Event}
 use Rattle.tk_events.specs.declared.events.Entry.{Entry}
 use Rattle.tk_events.specs.Registration.{registered_key}
-use Rattle.tk_record_columns.specs.Entries.{of_kind, desc_in}
-use Rattle.tk_record_columns.specs.Record.{is_next}
-use Rattle.tk_record_columns.specs.Mixing.{IsWorkerOf, of_worker}
+use Rattle.tk_record.specs.Entries.{of_kind, desc_in}
+use Rattle.tk_record.specs.Record.{is_next}
+use Rattle.tk_record.specs.Mixing.{IsWorkerOf, of_worker}
 use Rattle.tk_queue_core.specs.Limits.{most_workers, worker_slots}
 use Rattle.tk_queue_core.specs.declared.items.Item.{Item}
 use Rattle.tk_queue_core.specs.declared.items.Item.TheVariants.{Entry as Emitted, End}

@@ -4,18 +4,18 @@ use Rattle.std.specs.Prelude.{filter, nat_lt, nat_le, Some, None, is_some, All, 
 use Rattle.std.proofs.lemmas.Bool.{cases_eq, lt-ltb, le-ltb, or_right}
 use Rattle.std.proofs.lemmas.List.Elements.{All-nil, All-cons, All-head, All-tail, All-push}
 use Rattle.std.proofs.lemmas.List.Sums.{sum_by-cons, sum_by-append}
-use Rattle.tk_lemmas.proofs.Options.{is_some-option_or}
+use Rattle.tk_base.proofs.Options.{is_some-option_or}
 use Rattle.tk_ids.specs.declared.descriptors.Descriptor.{Descriptor}
 use Rattle.tk_ids.specs.declared.tables.TheConstants.{MAX_DESCRIPTORS}
 use Rattle.tk_events.specs.declared.kinds.Kind.TheVariants.{Dynamic}
 use Rattle.tk_events.specs.declared.events.Entry.{Entry}
 use Rattle.tk_events.specs.Event.{is_lawful}
 use Rattle.tk_events.specs.Registration.{registered_key}
-use Rattle.tk_record_columns.specs.declared.records.TheConstants.{MAX_ENTRIES}
-use Rattle.tk_record_columns.specs.declared.records.AppendFault.TheVariants as appends
-use Rattle.tk_record_columns.specs.Entries.{of_kind, registers, registered, desc_in}
-use Rattle.tk_record_columns.specs.Record.{is_next, is_known}
-use Rattle.tk_record_columns.specs.Mixing.{IsWorkerOf, of_worker}
+use Rattle.tk_record.specs.declared.records.TheConstants.{MAX_ENTRIES}
+use Rattle.tk_record.specs.declared.records.AppendFault.TheVariants as appends
+use Rattle.tk_record.specs.Entries.{of_kind, registers, registered, desc_in}
+use Rattle.tk_record.specs.Record.{is_next, is_known}
+use Rattle.tk_record.specs.Mixing.{IsWorkerOf, of_worker}
 use Rattle.tk_queue_core.specs.Limits.{most_workers}
 use Rattle.tk_queue_session.specs.Limits.{most_events}
 use Rattle.tk_queue_session.specs.Recordable.{IsNeverRefused, IsShort}

@@ -15,7 +15,7 @@ use Rattle.tk_queue_session.specs.declared.session_rules.SenderPass.{SenderPass}
 use Rattle.tk_queue_session.specs.declared.session_rules.ReceiverPass.{ReceiverPass}
 use Rattle.tk_queue_session.specs.declared.session_rules.PassView.{PassView}
 use Rattle.tk_queue_session.specs.declared.session_rules.PassView.TheVariants.{Sends, Takes, Spent}
-use Rattle.tk_record_columns.specs.Mixing.{IsWorkerOf, of_worker}
+use Rattle.tk_record.specs.Mixing.{IsWorkerOf, of_worker}
 use Rattle.tk_queue_core.specs.Core.{Core, IsCore, worker_of, push, put, take_first, items_of, entries}
 use Rattle.tk_queue_session.specs.Limits.{most_events}
 use Rattle.tk_queue_session.specs.SessionRule.{SessionLayout, Session, Fits, Stands, Concludes}

@@ -4,10 +4,10 @@ use Rattle.std.specs.Prelude.{slice_get, nat_lt, Option, Some, None, option_map,
 use Rattle.std.specs.Option.{option_or}
 use Rattle.std.proofs.lemmas.Bool.{cases_eq, cases_lt, lt-ltb, le-ltb, le-leb, ltb-true, and_parts, not-true}
 use Rattle.std.proofs.lemmas.Option.{slice_get_past}
-use Rattle.tk_record_columns.proofs.Registrations.{slice_get_prefix, slice_get_last, desc_in_more}
+use Rattle.tk_record.proofs.Registrations.{slice_get_prefix, slice_get_last, desc_in_more}
 use Rattle.std.proofs.lemmas.List.{map-append}
 use Rattle.std.proofs.lemmas.List.Sums.{sum_by-cons, sum_by-append}
-use Rattle.tk_lemmas.proofs.Options.{option_or-none}
+use Rattle.tk_base.proofs.Options.{option_or-none}
 use Rattle.atomic_table.specs.Seated.{TableId}
 use Rattle.tk_ids.specs.declared.descriptors.Descriptor.{Descriptor}
 use Rattle.tk_ids.specs.declared.tables.TheConstants.{MAX_DESCRIPTORS}
@@ -18,8 +18,8 @@ use Rattle.tk_events.specs.declared.events.Event.{Event}
 use Rattle.tk_events.specs.declared.events.Entry.{Entry}
 use Rattle.tk_events.specs.Event.{is_lawful}
 use Rattle.tk_events.specs.Registration.{registered_key}
-use Rattle.tk_record_columns.specs.Entries.{described, registers, registered, desc, desc_in}
-use Rattle.tk_record_columns.specs.Record.{is_next}
+use Rattle.tk_record.specs.Entries.{described, registers, registered, desc, desc_in}
+use Rattle.tk_record.specs.Record.{is_next}
 use Rattle.tk_queue_core.specs.Limits.{most_workers}
 use Rattle.tk_queue_core.specs.Core.{entry}
 use Rattle.tk_queue_session.specs.declared.sender_faults.SendFault.TheVariants as unsent

@@ -1,7 +1,7 @@
 -- When a session closes, what is known then, and the first reason why it does not.
 use Rattle.std.specs.Prelude.{◌≡◌, ℕ, ◌<◌, true, false, List}
 use Rattle.atomic_table.specs.Seated.{TableId}
-use Rattle.tk_record_columns.specs.Mixing.{IsWorkerOf}
+use Rattle.tk_record.specs.Mixing.{IsWorkerOf}
 use Rattle.tk_queue_session.specs.declared.close_faults.CloseReason.{CloseReason}
 use Rattle.tk_queue_session.specs.declared.close_faults.CloseReason.TheVariants.{
   Missing,

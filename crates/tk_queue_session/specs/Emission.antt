@@ -24,8 +24,8 @@ use Rattle.tk_events.specs.declared.kinds.Kind.TheVariants.{Dynamic}
 use Rattle.tk_events.specs.declared.events.Event.{Event}
 use Rattle.tk_events.specs.declared.events.Entry.{Entry}
 use Rattle.tk_events.specs.Event.{kind_code, is_lawful}
-use Rattle.tk_record_columns.specs.Entries.{of_kind, desc_in}
-use Rattle.tk_record_columns.specs.Record.{is_next}
+use Rattle.tk_record.specs.Entries.{of_kind, desc_in}
+use Rattle.tk_record.specs.Record.{is_next}
 use Rattle.tk_queue_session.specs.Limits.{most_events}
 
 abbrev pub entry_by : ℕ → Event → Entry

@@ -1,7 +1,7 @@
 -- How much a worker may emit, and how much its queue may hold.
 use Rattle.std.specs.Prelude.{ℕ}
 use Rattle.atomic_table.specs.Seated.{TableId}
-use Rattle.tk_limits.specs.declared.limits.TheConstants.{MAX_EVENTS}
+use Rattle.tk_base.specs.declared.limits.TheConstants.{MAX_EVENTS}
 
 -- how many events one worker may emit
 abbrev pub most_events : ℕ

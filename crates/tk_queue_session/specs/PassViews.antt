@@ -2,7 +2,7 @@
 -- the receiver's, or spent.
 use Rattle.std.specs.Prelude.{◌≡◌, ℕ, ◌<◌, Bool, true, false, List, [], ◌∷◌, ◌++◌, length, ◌+◌, ◌*◌}
 use Rattle.tk_events.specs.declared.events.Event.{Event}
-use Rattle.tk_record_columns.specs.Mixing.{IsWorkerOf, of_worker}
+use Rattle.tk_record.specs.Mixing.{IsWorkerOf, of_worker}
 use Rattle.tk_queue_core.specs.declared.items.Item.{Item}
 use Rattle.tk_queue_core.specs.declared.items.Item.TheVariants.{Entry as Emitted, End}
 use Rattle.tk_queue_core.specs.Core.{entries, worker_of}

@@ -2,8 +2,8 @@
 use Rattle.std.specs.Prelude.{◌≡◌, ℕ, ◌*◌, ◌≤◌, List, ◌++◌, length, All, None}
 use Rattle.tk_ids.specs.declared.descriptors.Descriptor.{Descriptor}
 use Rattle.tk_events.specs.declared.events.Entry.{Entry}
-use Rattle.tk_record_columns.specs.Record.{fault_of}
-use Rattle.tk_record_columns.specs.Mixing.{IsWorkerOf}
+use Rattle.tk_record.specs.Record.{fault_of}
+use Rattle.tk_record.specs.Mixing.{IsWorkerOf}
 use Rattle.tk_queue_session.specs.Limits.{most_events}
 use Rattle.tk_queue_session.specs.Receivers.{MayFollow, IsRecordable}
 

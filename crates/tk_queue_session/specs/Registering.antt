@@ -10,7 +10,7 @@ use Rattle.tk_events.specs.declared.kinds.Kind.TheVariants.{Dynamic}
 use Rattle.tk_events.specs.declared.payloads.Payload.TheVariants.{Described}
 use Rattle.tk_events.specs.declared.events.Event.{Event}
 use Rattle.tk_events.specs.Registration.{registered_key}
-use Rattle.tk_record_columns.specs.Entries.{desc}
+use Rattle.tk_record.specs.Entries.{desc}
 use Rattle.tk_queue_session.specs.declared.sender_faults.RegisterFault.{RegisterFault}
 use Rattle.tk_queue_session.specs.declared.sender_faults.RegisterFault.TheVariants as unregistered
 use Rattle.tk_queue_session.specs.Limits.{most_events}

@@ -9,9 +9,9 @@ use Rattle.tk_ids.specs.IdText.{SegmentView}
 use Rattle.tk_events.specs.declared.events.Event.{Event}
 use Rattle.tk_events.specs.Event.{is_lawful}
 use Rattle.tk_events.specs.Registration.{registered_key}
-use Rattle.tk_record_columns.specs.Record.{is_known}
-use Rattle.tk_record_columns.specs.Recorded.{Recorded}
-use Rattle.tk_record_columns.specs.Entries.{desc, desc_in}
+use Rattle.tk_record.specs.Record.{is_known}
+use Rattle.tk_record.specs.Recorded.{Recorded}
+use Rattle.tk_record.specs.Entries.{desc, desc_in}
 use Rattle.tk_queue_core.specs.Limits.{most_workers}
 use Rattle.tk_queue_session.specs.declared.sender_faults.SendFault.{SendFault}
 use Rattle.tk_queue_session.specs.declared.sender_faults.SendFault.TheVariants.{

@@ -1,6 +1,6 @@
 -- The rule of a session's queue: what it holds and what the passes know is a state of the core.
 use Rattle.std.specs.Prelude.{◌≡◌, ℕ, true, List, All}
-use Rattle.tk_record_columns.specs.Mixing.{IsWorkerOf}
+use Rattle.tk_record.specs.Mixing.{IsWorkerOf}
 use Rattle.tk_queue_core.specs.declared.items.Item.{Item}
 use Rattle.tk_queue_session.specs.declared.session_rules.SenderPass.{SenderPass}
 use Rattle.tk_queue_session.specs.declared.session_rules.PassView.{PassView}

@@ -1,5 +1,5 @@
 //! The limits of a session.
-use tk_events::MAX_WORKERS;
+use tk_base::MAX_WORKERS;
 
 /// How many items a session's queue may hold.
 pub const MAX_CAPACITY: usize = 1024;

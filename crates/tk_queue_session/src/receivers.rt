@@ -2,7 +2,7 @@
 ghost use Rattle.std.specs.Prelude.{◌≡◌, ℕ, ◌≤◌, false, [], All, length, slice_index, IfSome, IfNone, IfOk, OnOk, IfErr};
 ghost use Rattle.std.specs.Arc.{arc_value};
 ghost use Rattle.crossbeam_queue.specs.Passes.{view, IsPassOf};
-ghost use Rattle.tk_record_columns.specs.Mixing.{IsWorkerOf, Mix};
+ghost use Rattle.tk_record.specs.Mixing.{IsWorkerOf, Mix};
 ghost use Rattle.tk_queue_core.specs.Core.{worker_of, entries};
 ghost use Rattle.tk_queue_session.specs.PassViews.{pass_of_receiver};
 ghost use Rattle.tk_queue_session.specs.Receivers.{fresh_receiver, takes, MayBeTaken, IsRecordable, is_marked};
@@ -19,7 +19,7 @@ use crate::tokens::{
 use std::alloc::Global;
 use std::marker::Model;
 use std::sync::{Arc, Wait};
-use tk_events::MAX_WORKERS;
+use tk_base::MAX_WORKERS;
 use tk_ids::Table;
 use tk_queue_core::Item;
 

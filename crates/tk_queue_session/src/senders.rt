@@ -2,7 +2,7 @@
 ghost use Rattle.std.specs.Prelude.{◌≡◌, ◌⊎◌, ◌<◌, ◌≤◌, [], length, None, Some, option_map, IfOk, OnOk, IfErr, OnErr};
 ghost use Rattle.std.specs.Arc.{arc_value};
 ghost use Rattle.std.specs.Option.{option_copied};
-ghost use Rattle.tk_record_columns.specs.Entries.{desc};
+ghost use Rattle.tk_record.specs.Entries.{desc};
 ghost use Rattle.tk_queue_session.specs.Emission.{is_plain, registrations};
 ghost use Rattle.tk_events.specs.Registration.{registered_key};
 ghost use Rattle.tk_queue_session.specs.Senders.{record_of_sender, knows, sends, refusal_of, EmitsLawfully};
@@ -15,9 +15,9 @@ use crate::session_rules::{EventQueue, QueuePass};
 use std::alloc::Global;
 use std::marker::Model;
 use std::sync::{Arc, Wait};
-use tk_events::{Entry, Event, Kind, MAX_WORKERS, Payload, registered_key};
+use tk_base::{MAX_EVENTS, MAX_WORKERS};
+use tk_events::{Entry, Event, Kind, Payload, registered_key};
 use tk_ids::{DType, Descriptor, IdFault, MAX_DESCRIPTORS, Segment, Table, Text, UniqueId};
-use tk_limits::MAX_EVENTS;
 use tk_queue_core::Item;
 
 /// Emits the events of one worker of a session.

@@ -16,7 +16,7 @@ use std::alloc::{AllocError, Global};
 use std::error::Error;
 use std::fmt;
 use std::sync::Arc;
-use tk_events::MAX_WORKERS;
+use tk_base::MAX_WORKERS;
 use tk_ids::Table;
 
 /// Why a session was not opened.

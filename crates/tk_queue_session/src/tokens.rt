@@ -1,12 +1,12 @@
 //! What `Receiver::close` looks for before it takes the tokens in.
 ghost use Rattle.std.specs.Prelude.{◌≡◌, ◌+◌, ◌<◌, ◌≤◌, length, false, List, Bool, ℕ, slice_index_or, slice_index, MatchOption};
-ghost use Rattle.tk_record_columns.specs.Mixing.{IsWorkerOf};
+ghost use Rattle.tk_record.specs.Mixing.{IsWorkerOf};
 ghost use Rattle.tk_queue_session.specs.Tokens.{tokens_of, sent_by};
 ghost use Rattle.tk_queue_session.specs.Closing.{Least};
 
 use crate::limits::WORKER_SLOTS;
 use crate::senders::Ended;
-use tk_events::MAX_WORKERS;
+use tk_base::MAX_WORKERS;
 
 // How many tokens the worker has.
 fn tokens_of(ended: &[Ended], worker: u8) -> usize

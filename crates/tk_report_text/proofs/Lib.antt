@@ -1,7 +1,7 @@
 pub mod Ids
 pub mod Ordered
 pub mod SameReports
-pub mod Keeping
-pub mod Reporting
-pub mod Sorting
+pub mod LinesById
+pub mod ReportParts
+pub mod SortedIds
 pub mod Tails

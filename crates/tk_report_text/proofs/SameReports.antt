@@ -16,11 +16,11 @@ use Rattle.tk_events.specs.declared.statuses.Status.{Status}
 use Rattle.tk_events.specs.declared.statuses.Status.TheVariants as status
 use Rattle.tk_events.specs.Event.{kind_code, status_code}
 use Rattle.tk_events.specs.Fields.{field_text}
-use Rattle.tk_record.specs.StatisticsText.{statistics_text}
-use Rattle.tk_record_columns.specs.declared.statistics.Statistics.{Statistics}
-use Rattle.tk_record_columns.specs.Statistics.{statistics_of}
-use Rattle.tk_record_columns.specs.Entries.{status_number}
-use Rattle.tk_record_columns.specs.Recorded.{Recorded}
+use Rattle.tk_record_text.specs.StatisticsText.{statistics_text}
+use Rattle.tk_record.specs.declared.statistics.Statistics.{Statistics}
+use Rattle.tk_record.specs.Statistics.{statistics_of}
+use Rattle.tk_record.specs.Entries.{status_number}
+use Rattle.tk_record.specs.Recorded.{Recorded}
 use Rattle.tk_report_text.specs.Labels.{Label, events, label, labels, name}
 use Rattle.tk_report_text.specs.Reports.{id_lines, id_texts, label_line, labels_of_id, report_of_record}
 use Rattle.tk_report_text.proofs.Ordered.{same_texts}

@@ -7,13 +7,13 @@ use Rattle.tk_ids.specs.IdText.{SegmentView, id_text}
 use Rattle.tk_events.specs.declared.kinds.Kind.{Kind}
 use Rattle.tk_events.specs.declared.payloads.Payload.{Payload}
 use Rattle.tk_events.specs.declared.events.Entry.{Entry}
-use Rattle.tk_record_columns.specs.Recorded.{Recorded, without_entries}
-use Rattle.tk_record_columns.specs.Entries.{with_entry}
-use Rattle.tk_record.specs.Spelling.{HasTail, joined, tail}
-use Rattle.tk_record.specs.declared.versions.Version.{Version}
-use Rattle.tk_record.specs.declared.versions.Version.TheVariants.{Two}
-use Rattle.tk_record.specs.Text.{AreEntries}
-use Rattle.tk_record.proofs.TailLines.{one_tail}
+use Rattle.tk_record.specs.Recorded.{Recorded, without_entries}
+use Rattle.tk_record.specs.Entries.{with_entry}
+use Rattle.tk_record_text.specs.Spelling.{HasTail, joined, tail}
+use Rattle.tk_record_text.specs.declared.versions.Version.{Version}
+use Rattle.tk_record_text.specs.declared.versions.Version.TheVariants.{Two}
+use Rattle.tk_record_text.specs.Text.{AreEntries}
+use Rattle.tk_record_text.proofs.TailLines.{one_tail}
 use Rattle.tk_report_text.specs.Labels.{Label, events, label, labels, name}
 use Rattle.tk_report_text.specs.Reports.{labels_of_id}
 use Rattle.tk_report_text.specs.Laws.{ReportIsOfTails, TextHasTails}

@@ -1,5 +1,5 @@
 pub use Rattle.tk_streams.specs.Stream
-pub use Rattle.tk_record_columns.specs.Recorded
+pub use Rattle.tk_record.specs.Recorded
 pub mod Labels
 pub mod Reports
 pub mod GroupedLines

@@ -5,13 +5,13 @@ use Rattle.std.specs.Ordering.{nat_cmp}
 use Rattle.std.specs.Cmp.Lexicographic.{slice_cmp}
 use Rattle.std.specs.BTreeSet.{insert_key}
 use Rattle.tk_ids.specs.IdText.{id_text}
-use Rattle.tk_record_columns.specs.declared.statistics.Statistics.{Statistics}
-use Rattle.tk_record_columns.specs.Recorded.{Recorded}
-use Rattle.tk_record_columns.specs.Statistics.{statistics_of}
-use Rattle.tk_record.specs.Characters.{blank}
+use Rattle.tk_record.specs.declared.statistics.Statistics.{Statistics}
+use Rattle.tk_record.specs.Recorded.{Recorded}
+use Rattle.tk_record.specs.Statistics.{statistics_of}
+use Rattle.tk_record_text.specs.Characters.{blank}
 use Rattle.tk_events.specs.Fields.{field_text, line_feed}
-use Rattle.tk_record.specs.Spelling.{tail, joined}
-use Rattle.tk_record.specs.StatisticsText.{statistics_text}
+use Rattle.tk_record_text.specs.Spelling.{tail, joined}
+use Rattle.tk_record_text.specs.StatisticsText.{statistics_text}
 use Rattle.tk_report_text.specs.Labels.{Label, labels}
 
 -- the texts of the ids that have an event, each once, in the order of their bytes

@@ -1,7 +1,7 @@
 //! The events of a record, gathered by the texts of their ids.
 ghost use Rattle.std.specs.Prelude.{◌≡◌, ℕ, List, [], true, is_some, IfOk, OnOk};
 ghost use Rattle.tk_ids.specs.IdText.{id_text};
-ghost use Rattle.tk_record_columns.specs.Entries.{desc};
+ghost use Rattle.tk_record.specs.Entries.{desc};
 ghost use Rattle.tk_report_text.specs.Labels.{labels};
 ghost use Rattle.tk_report_text.specs.steps.GroupedLines.{lines_in, text_of, IsGrouped, IndexesId, AddsEvent, IsKept, IsInOrder};
 

@@ -1,11 +1,12 @@
 //! The lines that a report has below an id.
 ghost use Rattle.std.specs.Prelude.{◌≡◌, ◌++◌, [], OnOk};
-ghost use Rattle.tk_record.specs.Spelling.{joined, tail};
+ghost use Rattle.tk_record_text.specs.Spelling.{joined, tail};
 ghost use Rattle.tk_report_text.specs.steps.GroupedLines.{is_empty, tail_line};
 
 use std::alloc::{AllocError, Global};
 use std::marker::Model;
-use tk_record::{EntryView, push_tail};
+use tk_record::EntryView;
+use tk_record_text::push_tail;
 
 // How many bytes are reserved for the lines of an id, as a start and a finish; longer ones grow.
 const LINES_CAPACITY: usize = 24;

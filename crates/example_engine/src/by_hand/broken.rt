@@ -1,5 +1,5 @@
 //! Engines that the kit catches: each runs one test, which is to start and to fail, with a defect.
-#![tactic(auto, using(engine_testkit::proofs::Emitting::emissions))]
+#![tactic(auto, using(engine_testkit::proofs::Emissions::emissions))]
 
 ghost use Rattle.std.specs.Prelude.{[]};
 ghost use Rattle.std.specs.Arc.{arc_value};

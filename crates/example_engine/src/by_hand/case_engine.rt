@@ -1,5 +1,5 @@
 //! The engine of tables of cases, which emits its events itself.
-#![tactic(auto, using(engine_testkit::proofs::Emitting::emissions))]
+#![tactic(auto, using(engine_testkit::proofs::Emissions::emissions))]
 
 ghost use Rattle.std.specs.Prelude.{◌≡◌, ◌+◌, [], ◌∷◌, None, length, ◌≤◌, slice_get, IfOk, IfSome, OnOk};
 ghost use Rattle.std.specs.Option.{option_copied};

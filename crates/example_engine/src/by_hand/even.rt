@@ -1,5 +1,5 @@
 //! An engine of one test by hand: is a number even?
-#![tactic(auto, using(engine_testkit::proofs::Emitting::emissions))]
+#![tactic(auto, using(engine_testkit::proofs::Emissions::emissions))]
 
 ghost use Rattle.std.specs.Prelude.{◌≡◌, ◌<◌, ◌%◌, ◌==◌, if◌then◌else◌, [], ◌∷◌, None, IfSome, length};
 ghost use Rattle.std.specs.Arc.{arc_value};

@@ -1,5 +1,5 @@
 //! The run of one table.
-#![tactic(auto, using(engine_testkit::proofs::Emitting::emissions))]
+#![tactic(auto, using(engine_testkit::proofs::Emissions::emissions))]
 
 ghost use Rattle.std.specs.Prelude.{◌≡◌, [], ◌∷◌, length, IfOk, OnOk};
 ghost use Rattle.std.specs.Option.{option_copied};

@@ -2,8 +2,8 @@
 use Rattle.std.specs.Prelude.{◌≡◌, ℕ, Bool, true, List, Option, Result, Ok, Err}
 use Rattle.testkit_program.specs.declared.faults.Fault.{Fault}
 use Rattle.testkit_program.specs.declared.faults.Fault.TheVariants as faults
-use Rattle.tk_report.specs.declared.plan_runs.PlanRun.{PlanRun}
-use Rattle.tk_report.specs.Answers.{IsReported, IsRunReport}
+use Rattle.tk_plan_runs.specs.declared.plan_runs.PlanRun.{PlanRun}
+use Rattle.tk_plan_runs.specs.Answers.{IsReported, IsRunReport}
 
 -- What writing the report of a run answers: a yes, or why the report was not written. No fault of
 -- another kind is answered.

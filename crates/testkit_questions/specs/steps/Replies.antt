@@ -1,7 +1,7 @@
 -- What a reply says, and the text that is made of it.
 use Rattle.std.specs.Prelude.{ℕ, Bool, true, List}
 use Rattle.std.specs.List.{flat_map}
-use Rattle.tk_record.specs.EventLists.{event_list}
+use Rattle.tk_record_text.specs.EventLists.{event_list}
 use Rattle.testkit_questions.specs.declared.replies.Reply.{Reply}
 use Rattle.testkit_questions.specs.declared.replies.Reply.TheVariants as replies
 use Rattle.testkit_questions.specs.Answers.{execution_line}

@@ -15,7 +15,7 @@ use Rattle.std.specs.Prelude.{
   vec_capacity,
 }
 use Rattle.tk_ids.specs.declared.descriptors.Descriptor.{Descriptor}
-use Rattle.tk_limits.specs.declared.limits.TheConstants.{MAX_WORKERS}
+use Rattle.tk_base.specs.declared.limits.TheConstants.{MAX_WORKERS}
 use Rattle.tk_events.specs.declared.events.Event.{Event}
 use Rattle.tk_queue_session.specs.declared.limits.TheConstants.{MAX_CAPACITY}
 use Rattle.tk_queue_session.specs.Emission.{entries_by}

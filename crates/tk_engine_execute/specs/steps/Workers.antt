@@ -22,7 +22,7 @@ use Rattle.std.specs.List.{AllPairs}
 use Rattle.atomic_table.specs.Seated.{TableId}
 use Rattle.tk_ids.specs.declared.descriptors.Descriptor.{Descriptor}
 use Rattle.tk_events.specs.declared.events.Event.{Event}
-use Rattle.tk_book.specs.Books.{BookView, empty}
+use Rattle.tk_locks.specs.Books.{BookView, empty}
 use Rattle.tk_engine_runs.specs.Claims.{ClaimView, ClaimSeatView, fresh}
 use Rattle.tk_queue_session.specs.Senders.{SenderView, fresh_senders}
 use Rattle.tk_engine_runs.specs.Run.{Emits}

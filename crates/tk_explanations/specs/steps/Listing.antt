@@ -1,7 +1,7 @@
 -- Lines of events, where entries are gone over one after another.
 use Rattle.std.specs.Prelude.{ℕ, Bool, List, [], if◌then◌else◌}
 use Rattle.tk_events.specs.declared.events.Entry.{Entry}
-use Rattle.tk_record_columns.specs.Recorded.{Recorded}
+use Rattle.tk_record.specs.Recorded.{Recorded}
 use Rattle.tk_explanations.specs.Lists.{listed_event}
 
 -- the line of an entry where its flag is true, and else nothing

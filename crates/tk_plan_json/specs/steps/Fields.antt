@@ -3,15 +3,15 @@ use Rattle.std.specs.Prelude.{◌≡◌, ◌==◌, ◌&&◌, Bool, List, [], ◌
 use Rattle.serde_json.specs.Data.{Data}
 use Rattle.serde_json.specs.Find.{get}
 use Rattle.serde_json.specs.View.{view}
-use Rattle.tk_plan_members.specs.Checks.{Row}
-use Rattle.tk_plan_members.specs.Contents.{json_text, json_optional, json_dtype, listed}
-use Rattle.tk_plan_members.specs.Rows.{dtype_row, segment_row, name_row, mode_row, isolated_row}
-use Rattle.tk_plan_members.specs.Rows.{locks_row, skip_row, result_row, entries_row, files_rows}
-use Rattle.tk_plan_members.specs.Rows.{children_row, dynamic_row}
+use Rattle.tk_plan_json_members.specs.Checks.{Row}
+use Rattle.tk_plan_json_members.specs.Contents.{json_text, json_optional, json_dtype, listed}
+use Rattle.tk_plan_json_members.specs.Rows.{dtype_row, segment_row, name_row, mode_row, isolated_row}
+use Rattle.tk_plan_json_members.specs.Rows.{locks_row, skip_row, result_row, entries_row, files_rows}
+use Rattle.tk_plan_json_members.specs.Rows.{children_row, dynamic_row}
 use Rattle.tk_plan_json.specs.NodeInputs.{concurrent_of, isolated_of, locks_of}
 use Rattle.tk_plan_json.specs.NodeInputs.{children_of, dynamic_of}
-use Rattle.tk_plan_members.specs.Pointers.{viewed, IsPairOf}
-use Rattle.tk_plan_members.specs.MemberValues.{IsNodeResult, AreReports, AreFiles}
+use Rattle.tk_plan_json_members.specs.Pointers.{viewed, IsPairOf}
+use Rattle.tk_plan_json_members.specs.MemberValues.{IsNodeResult, AreReports, AreFiles}
 use Rattle.tk_plan_json.specs.declared.node_fields.Heading.{Heading}
 use Rattle.tk_plan_json.specs.declared.node_fields.Concurrency.{Concurrency}
 use Rattle.tk_plan_json.specs.declared.node_fields.Content.{Content}

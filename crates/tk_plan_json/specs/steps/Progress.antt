@@ -7,20 +7,20 @@ use Rattle.tk_ids.specs.IdText.{SegmentView}
 use Rattle.tk_ids.specs.declared.descriptors.Descriptor.{Descriptor}
 use Rattle.tk_ids.specs.declared.tables.TheConstants.{MAX_DESCRIPTORS}
 use Rattle.tk_ids.specs.declared.tables.TableFault.TheVariants.{Twice, Full}
-use Rattle.tk_plan_units.specs.declared.units.needs.TheConstants.{MAX_KEYS}
-use Rattle.tk_plan_units.specs.declared.trees.nodes.Node.{Node}
-use Rattle.tk_plan_units.specs.declared.trees.nodes.NumberedNode.{NumberedNode}
-use Rattle.tk_plan_units.specs.Ids.{descriptor_in, descriptors}
-use Rattle.tk_plan_units.specs.Keys.{lock_keys}
-use Rattle.tk_plan_units.specs.Planned.{is_lawful_node}
-use Rattle.tk_plan_units.specs.Trees.{Tree, flat, contents}
+use Rattle.tk_plan.specs.declared.units.needs.TheConstants.{MAX_KEYS}
+use Rattle.tk_plan.specs.declared.trees.nodes.Node.{Node}
+use Rattle.tk_plan.specs.declared.trees.nodes.NumberedNode.{NumberedNode}
+use Rattle.tk_plan.specs.Ids.{descriptor_in, descriptors}
+use Rattle.tk_plan.specs.Keys.{lock_keys}
+use Rattle.tk_plan.specs.Planned.{is_lawful_node}
+use Rattle.tk_plan.specs.Trees.{Tree, flat, contents}
 use Rattle.tk_plan_json.specs.declared.limits.TheConstants.{MAX_LEVELS}
 use Rattle.tk_plan_json.specs.Verdicts.{is_kind, same_segment, verdict, when}
 use Rattle.tk_plan_json.specs.steps.Fields.{has_no_below}
 use Rattle.tk_plan_json.specs.NodeInputs.{NodeInput, segment_of, id_of, node_of, below, grown}
 use Rattle.tk_plan_json.specs.NodeInputs.{node_inputs}
-use Rattle.tk_plan_members.specs.declared.faults.PlanFault.{PlanFault}
-use Rattle.tk_plan_members.specs.declared.faults.PlanFault.TheVariants.{Table, TooManyResources}
+use Rattle.tk_plan_json_members.specs.declared.faults.PlanFault.{PlanFault}
+use Rattle.tk_plan_json_members.specs.declared.faults.PlanFault.TheVariants.{Table, TooManyResources}
 use Rattle.tk_plan_json.specs.declared.read_nodes.ReadNodes.{ReadNodes}
 use Rattle.tk_plan_json.specs.declared.read_nodes.Checked.{Checked}
 use Rattle.tk_plan_json.specs.declared.read_nodes.Named.{Named}

@@ -1,6 +1,6 @@
 -- What private clauses and proofs alone name of Asked.
 use Rattle.std.specs.Prelude.{◌≡◌, ℕ, Bool, true, false, List, get_or, slice_get}
-use Rattle.tk_record_columns.specs.Selections.{Selected}
+use Rattle.tk_record.specs.Selections.{Selected}
 use Rattle.tk_query_conditions.specs.declared.conditions.Condition.{Condition}
 use Rattle.tk_query.specs.Asked.{event_at, fits}
 

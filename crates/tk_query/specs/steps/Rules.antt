@@ -19,10 +19,10 @@ use Rattle.tk_ids.specs.IdText.{id_text}
 use Rattle.tk_ids.specs.declared.descriptors.Descriptor.{Descriptor}
 use Rattle.tk_events.specs.declared.payloads.Payload.{Payload}
 use Rattle.tk_events.specs.declared.events.Entry.{Entry}
-use Rattle.tk_record_columns.specs.Entries.{desc}
-use Rattle.tk_record_columns.specs.Recorded.{Recorded}
-use Rattle.tk_record_columns.specs.Selections.{passes}
-use Rattle.tk_record_columns.specs.declared.selections.ColumnTest.{ColumnTest}
+use Rattle.tk_record.specs.Entries.{desc}
+use Rattle.tk_record.specs.Recorded.{Recorded}
+use Rattle.tk_record.specs.Selections.{passes}
+use Rattle.tk_record.specs.declared.selections.ColumnTest.{ColumnTest}
 use Rattle.tk_query_conditions.specs.declared.conditions.Condition.{Condition}
 use Rattle.tk_query_conditions.specs.declared.conditions.Condition as condition
 use Rattle.tk_query.specs.declared.rules.PayloadTest.{PayloadTest}

@@ -32,7 +32,7 @@ use Rattle.tk_events.specs.declared.kinds.Kind.TheVariants.{
 }
 use Rattle.tk_events.specs.declared.statuses.Status.TheVariants.{Successful}
 use Rattle.tk_events.specs.declared.events.Entry.{Entry}
-use Rattle.tk_record_columns.specs.Entries.{of_status}
+use Rattle.tk_record.specs.Entries.{of_status}
 use Rattle.tk_query_lifecycle.specs.declared.lifecycle_rules.LifecycleRule.{LifecycleRule}
 use Rattle.tk_query_lifecycle.specs.declared.lifecycle_rules.LifecycleRule.TheVariants.{
   RanAlready,

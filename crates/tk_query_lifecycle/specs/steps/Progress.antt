@@ -27,8 +27,8 @@ use Rattle.tk_ids.specs.declared.descriptors.Descriptor.{Descriptor}
 use Rattle.tk_events.specs.declared.kinds.Kind.TheVariants.{Dynamic, Finished}
 use Rattle.tk_events.specs.declared.events.Entry.{Entry}
 use Rattle.tk_events.specs.declared.statuses.Status.TheVariants.{Successful}
-use Rattle.tk_record_columns.specs.Entries.{of_kind, of_status, with_entry}
-use Rattle.tk_record_columns.specs.Recorded.{Recorded}
+use Rattle.tk_record.specs.Entries.{of_kind, of_status, with_entry}
+use Rattle.tk_record.specs.Recorded.{Recorded}
 use Rattle.tk_query_lifecycle.specs.Lifecycle.{
   BreaksFirst,
   BreaksNone,

@@ -1,8 +1,8 @@
 -- What private clauses and proofs alone name of Replay.
 use Rattle.std.specs.Prelude.{◌≡◌, ℕ, List, length, Result, Err}
 use Rattle.tk_events.specs.declared.events.Event.{Event}
-use Rattle.tk_record_columns.specs.declared.records.AppendFault.{AppendFault}
-use Rattle.tk_record_columns.specs.declared.records.AppendFault.TheVariants as appends
+use Rattle.tk_record.specs.declared.records.AppendFault.{AppendFault}
+use Rattle.tk_record.specs.declared.records.AppendFault.TheVariants as appends
 use Rattle.tk_queue_replay.specs.declared.replays.ReplayFault.{ReplayFault}
 use Rattle.tk_queue_replay.specs.declared.replays.ReplayFault.TheVariants as faults
 use Rattle.tk_queue_replay.specs.Replay.{Moment, Stop, Faulty, Refuses}

@@ -1,6 +1,6 @@
 -- What private clauses and proofs alone name of ReplayText.
 use Rattle.std.specs.Prelude.{◌≡◌, length, Some, Result, Ok, Err}
-use Rattle.tk_record_columns.specs.Recorded.{Recorded}
+use Rattle.tk_record.specs.Recorded.{Recorded}
 use Rattle.tk_queue_replay.specs.declared.replays.ReplayFault.{ReplayFault}
 use Rattle.tk_queue_replay.specs.declared.replays.ReplayFault.TheVariants as faults
 use Rattle.tk_queue_replay.specs.Replay.{

@@ -1,8 +1,8 @@
 -- What private clauses and proofs alone name of Script.
 use Rattle.std.specs.Prelude.{◌^◌, ◌&&◌, ℕ, List, [], ◌∷◌, Option, Some, None, codes, if◌then◌else◌}
 use Rattle.std.specs.Prelude.{bytes_eq, nat_lt, nat_le}
-use Rattle.tk_record.specs.Reading.{number_of}
-use Rattle.tk_record.specs.steps.Reading.{◌>>=◌}
+use Rattle.tk_record_text.specs.Reading.{number_of}
+use Rattle.tk_record_text.specs.steps.Reading.{◌>>=◌}
 use Rattle.tk_queue_replay.specs.declared.turns.Turn.{Turn}
 use Rattle.tk_queue_replay.specs.declared.turns.Turn.TheVariants.{Worker, Take}
 use Rattle.tk_queue_core.specs.Limits.{most_workers}

@@ -1,5 +1,5 @@
 use Rattle.tk_engine_execute.specs.Grown.{AnyEvent}
-use Rattle.tk_engine_execute.proofs.Growing.{grew_registered}
+use Rattle.tk_engine_execute.proofs.SinkGrowth.{grew_registered}
 use Rattle.test_runs.proofs.engines.fail_as_worker.Goals as goal
 
 pub returns-in-Ok : goal.returns-in-Ok

@@ -1,5 +1,5 @@
 use Rattle.std.proofs.Common.{ℕ, List, subst, sym}
-use Rattle.tk_report.specs.Answers.{IsPlanRun}
+use Rattle.tk_plan_runs.specs.Answers.{IsPlanRun}
 use Rattle.testkit_program.proofs.Runs.{broken_target, plan_outcome}
 use Rattle.testkit_program.proofs.jobs.report_loaded.Goals as goal
 

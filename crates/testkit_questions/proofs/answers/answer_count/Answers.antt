@@ -1,6 +1,6 @@
 use Rattle.std.proofs.Common.{rules, ◌≡◌, ◌++◌, ◌∷◌, [], ℕ, length, string_bytes, ap, ◌∙◌}
 use Rattle.std.specs.Fmt.{decimal}
-use Rattle.tk_record_columns.specs.Selections.{Selected, filtered_by, selects}
+use Rattle.tk_record.specs.Selections.{Selected, filtered_by, selects}
 use Rattle.testkit_questions.proofs.AnswerLemmas.{kept_count}
 use Rattle.testkit_questions.proofs.answers.answer_count.Goals as goal
 

@@ -1,5 +1,5 @@
 use Rattle.std.proofs.Common.{◌∙◌}
-use Rattle.tk_record_columns.proofs.Picking.{if_ok_then}
+use Rattle.tk_record.proofs.PickedEntries.{if_ok_then}
 use Rattle.testkit_questions.proofs.AnswerLemmas.{stats_are}
 use Rattle.testkit_questions.proofs.answers.answer_stats.Goals as goal
 

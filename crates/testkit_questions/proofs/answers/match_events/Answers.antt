@@ -1,6 +1,6 @@
 use Rattle.std.proofs.Common.{subst}
-use Rattle.tk_record_columns.specs.Selections.{Selected}
-use Rattle.tk_record_columns.proofs.Picking.{if_ok_then}
+use Rattle.tk_record.specs.Selections.{Selected}
+use Rattle.tk_record.proofs.PickedEntries.{if_ok_then}
 use Rattle.tk_query.specs.Matches.{IsExact}
 use Rattle.testkit_questions.proofs.answers.match_events.Goals as goal
 

@@ -1,6 +1,6 @@
 use Rattle.std.proofs.Common.{Err, ap, inl, inr, map, refl, string_bytes}
 use Rattle.std.proofs.lemmas.Result.{err_from_is_err_and}
-use Rattle.tk_record.specs.declared.reading.ReadFault.TheVariants as read
+use Rattle.tk_record_text.specs.declared.reading.ReadFault.TheVariants as read
 use Rattle.testkit_questions.specs.steps.Asked.{written}
 use Rattle.testkit_questions.proofs.AskLemmas.{always_ok, no_device, no_source, no_target, not_of_words, refused_read, refused_words, replied, replied_no_source, replied_partly, replied_refusal, replied_unread, replied_unwritten, same_fault, unread_in_time, whole_in_time}
 use Rattle.testkit_questions.proofs.asking.ask.Goals as goal

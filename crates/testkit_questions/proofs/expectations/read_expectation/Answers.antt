@@ -1,7 +1,7 @@
 use Rattle.std.proofs.Common.{Some, arith}
 use Rattle.std.proofs.lemmas.Str.Pattern.{split_parts, split_after}
 use Rattle.std.specs.Fmt.{decimal}
-use Rattle.tk_record_columns.specs.Selections.{selection_name}
+use Rattle.tk_record.specs.Selections.{selection_name}
 use Rattle.testkit_questions.proofs.WordLemmas.{name_lacks}
 use Rattle.testkit_questions.proofs.expectations.read_expectation.Goals as goal
 

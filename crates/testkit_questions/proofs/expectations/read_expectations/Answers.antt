@@ -1,5 +1,5 @@
 use Rattle.std.proofs.Common.{rules, ℕ, List, Some, ◌<◌, length, map, string_bytes, subst, add-one}
-use Rattle.tk_record_columns.specs.Statistics.{nothing_expected}
+use Rattle.tk_record.specs.Statistics.{nothing_expected}
 use Rattle.testkit_questions.specs.Questions.{IsNextExpected}
 use Rattle.testkit_questions.proofs.WordLemmas.{texts_more, expecting_more}
 use Rattle.testkit_questions.proofs.expectations.read_expectations.Goals as goal

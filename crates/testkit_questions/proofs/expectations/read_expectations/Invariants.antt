@@ -1,5 +1,5 @@
 use Rattle.std.proofs.Common.{take, map, string_bytes}
-use Rattle.tk_record_columns.specs.Statistics.{nothing_expected}
+use Rattle.tk_record.specs.Statistics.{nothing_expected}
 use Rattle.testkit_questions.specs.Questions.{Expecting}
 use Rattle.testkit_questions.proofs.expectations.read_expectations.Given as goal
 

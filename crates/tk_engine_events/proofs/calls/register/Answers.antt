@@ -1,4 +1,4 @@
-use Rattle.tk_engine_events.proofs.Emitting.{grew_registered_as}
+use Rattle.tk_engine_events.proofs.Emissions.{grew_registered_as}
 use Rattle.tk_engine_events.proofs.calls.register.Goals as goal
 
 pub returns-clause-grew : goal.returns-clause-grew

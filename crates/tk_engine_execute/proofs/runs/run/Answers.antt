@@ -4,7 +4,7 @@ use Rattle.std.proofs.lemmas.Result.{IfOk-weaker, IfErr-weaker, err_from_is_err_
 use Rattle.tk_ids.specs.declared.descriptors.Descriptor.{Descriptor}
 use Rattle.tk_events.specs.declared.events.Event.{Event}
 use Rattle.tk_events.specs.declared.events.Entry.{Entry}
-use Rattle.tk_record_columns.specs.Recorded.{Recorded}
+use Rattle.tk_record.specs.Recorded.{Recorded}
 use Rattle.tk_queue_core.specs.Core.{entries}
 use Rattle.tk_queue_session.specs.Receivers.{ReceiverView}
 use Rattle.tk_queue_session.specs.Closing.{ClosedView}
@@ -15,7 +15,7 @@ use Rattle.tk_engine_execute.specs.declared.event_collectors.EventCollector.{Eve
 use Rattle.tk_engine_execute.specs.steps.EventCollectors.{TookMore}
 use Rattle.tk_engine_execute.specs.Results.{RunResults, IsTallied}
 use Rattle.tk_engine_execute.specs.steps.PreparedRuns.{RunRequest, IsFreshCollector}
-use Rattle.tk_engine_execute.proofs.Collecting.{fresh_collector, room_left}
+use Rattle.tk_engine_execute.proofs.ReceiverStates.{fresh_collector, room_left}
 use Rattle.tk_engine_execute.specs.Engines.{MayFail}
 use Rattle.tk_engine_execute.specs.steps.Workers.{run_units}
 use Rattle.tk_engine_execute.specs.steps.Outcomes.{IsFaultOfWorkers, IsFaultOfRunning}

@@ -1,5 +1,5 @@
 use Rattle.std.proofs.Common.{ap, subst, sym, ◌∙◌}
-use Rattle.tk_plan_units.specs.Trees.{tree_of}
+use Rattle.tk_plan.specs.Trees.{tree_of}
 use Rattle.tk_engine_hierarchical.specs.StaticSteps.{FitsPlan}
 use Rattle.tk_engine_hierarchical.specs.TreeRuns.{PlanState}
 use Rattle.tk_engine_hierarchical.proofs.Stepped.{all_found_fit, found_fits, unit_found}

@@ -1,12 +1,12 @@
 use Rattle.std.proofs.Common.{◌≡◌, sym, ap, subst, ◌∙◌}
 use Rattle.std.specs.Prelude.{Some, slice_get}
 use Rattle.tk_ids.specs.Table.{AreDifferent, ids_of}
-use Rattle.tk_record_columns.specs.Record.{IsRecord}
-use Rattle.tk_record_columns.specs.Recorded.{Recorded}
+use Rattle.tk_record.specs.Record.{IsRecord}
+use Rattle.tk_record.specs.Recorded.{Recorded}
 use Rattle.tk_query_lifecycle.specs.Lifecycle.{IsLifecycle}
 use Rattle.tk_query_lifecycle.specs.NeverRan.{EachChildRuns}
 use Rattle.tk_query_lifecycle.specs.declared.lifecycle_rules.Lifecycle.TheVariants.{Kept}
-use Rattle.tk_engine_laws.proofs.Turns.{long_ids}
+use Rattle.tk_plan_laws.proofs.Turns.{long_ids}
 use Rattle.tk_engine_hierarchical.proofs.ChildrenRun.{children_run}
 use Rattle.tk_engine_hierarchical.proofs.laws.children_run.Goals as goal
 

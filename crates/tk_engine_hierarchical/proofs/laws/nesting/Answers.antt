@@ -1,5 +1,5 @@
 use Rattle.std.proofs.Common.{subst}
-use Rattle.tk_record_columns.specs.Record.{IsRecord}
+use Rattle.tk_record.specs.Record.{IsRecord}
 use Rattle.tk_engine_hierarchical.specs.Laws.{test_rules}
 use Rattle.tk_engine_hierarchical.specs.StaticSteps.{FitsPlan}
 use Rattle.tk_engine_hierarchical.proofs.Nested.{units_nest}

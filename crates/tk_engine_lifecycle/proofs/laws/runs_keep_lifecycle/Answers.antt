@@ -1,6 +1,6 @@
 use Rattle.std.proofs.Common.{subst}
-use Rattle.tk_record_columns.specs.Record.{IsRecord}
-use Rattle.tk_engine_lifecycle.proofs.Whole.{runs_keep}
+use Rattle.tk_record.specs.Record.{IsRecord}
+use Rattle.tk_engine_lifecycle.proofs.WholeRuns.{runs_keep}
 use Rattle.tk_engine_lifecycle.proofs.laws.runs_keep_lifecycle.Goals as goal
 
 pub returns : goal.returns

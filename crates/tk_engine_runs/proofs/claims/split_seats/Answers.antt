@@ -8,7 +8,7 @@ use Rattle.tk_engine_runs.specs.declared.claim_rules.Drawn.{Drawn}
 use Rattle.tk_engine_runs.specs.Claims.{ClaimSeatView, fresh}
 use Rattle.tk_engine_runs.specs.ClaimViews.{claim_view, seat_view_of}
 use Rattle.tk_engine_runs.specs.ClaimWord.{drawn}
-use Rattle.tk_engine_runs.proofs.Drawing.{splits}
+use Rattle.tk_engine_runs.proofs.ClaimSteps.{splits}
 use Rattle.tk_engine_runs.proofs.claims.split_seats.Goals as goal
 
 -- a seat that drew nothing

@@ -1,5 +1,5 @@
 use Rattle.std.proofs.Common.{◌≡◌, arith, ap, length, refl, subst}
-use Rattle.tk_plan_units.specs.Trees.{tree_of}
+use Rattle.tk_plan.specs.Trees.{tree_of}
 use Rattle.tk_engine_unit_events.proofs.UnitsOfKeys.{OwnedSoFar, all_owned, count_units_of}
 use Rattle.tk_engine_unit_events.proofs.UnitsOfKeys.{end_exact, first_before_end, next_owned}
 use Rattle.tk_engine_unit_events.proofs.shapes.owners_of.Goals as goal

@@ -1,7 +1,7 @@
 use Rattle.std.proofs.Common.{arith, inr}
 use Rattle.std.proofs.lemmas.Bool.{eqb-true}
-use Rattle.tk_engine_unit_events.proofs.Running.{innermost_among, innermost_parent, none_innermost}
-use Rattle.tk_engine_unit_events.proofs.Running.{parent_above}
+use Rattle.tk_engine_unit_events.proofs.UnitStates.{innermost_among, innermost_parent, none_innermost}
+use Rattle.tk_engine_unit_events.proofs.UnitStates.{parent_above}
 use Rattle.tk_engine_unit_events.proofs.unit_ids.has_running_parent.Goals as goal
 
 pub returns-then-key-eq0-clause-among : goal.returns-then-key-eq0-clause-among

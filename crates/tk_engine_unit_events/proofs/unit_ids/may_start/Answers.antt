@@ -1,6 +1,6 @@
 use Rattle.std.proofs.Common.{sym, ◌∙◌, ap, slice_get}
 use Rattle.tk_engine_unit_events.specs.Running.{with_ids}
-use Rattle.tk_engine_unit_events.proofs.Running.{may_start}
+use Rattle.tk_engine_unit_events.proofs.UnitStates.{may_start}
 use Rattle.tk_engine_unit_events.proofs.unit_ids.may_start.Goals as goal
 
 pub returns-then-owner-unit : goal.returns-then-owner-unit

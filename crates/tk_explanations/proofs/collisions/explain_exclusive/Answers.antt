@@ -1,5 +1,5 @@
 use Rattle.tk_explanations.specs.Collisions.{IsExclusiveExplanation}
-use Rattle.tk_explanations.proofs.Explaining.{explained}
+use Rattle.tk_explanations.proofs.ExplanationRows.{explained}
 use Rattle.tk_explanations.proofs.collisions.explain_exclusive.Goals as goal
 
 pub returns-clause-written : goal.returns-clause-written

@@ -1,7 +1,7 @@
 use Rattle.std.specs.HashSet.{contains}
 use Rattle.std.specs.Prelude.{nat_eq}
 use Rattle.tk_events.specs.declared.kinds.Kind.TheVariants.{Finished}
-use Rattle.tk_record_columns.specs.Record.{entry_of_view}
+use Rattle.tk_record.specs.Record.{entry_of_view}
 use Rattle.tk_explanations.proofs.SearchLemmas.{keys_more}
 use Rattle.tk_explanations.proofs.event_searches.finished_before.Goals as goal
 

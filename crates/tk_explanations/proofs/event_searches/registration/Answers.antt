@@ -1,6 +1,6 @@
 use Rattle.std.proofs.Common.{ap, sym, ◌∙◌}
 use Rattle.std.specs.Prelude.{Some}
-use Rattle.tk_record_columns.specs.Record.{entry_of_view}
+use Rattle.tk_record.specs.Record.{entry_of_view}
 use Rattle.tk_explanations.specs.EventSearches.{registers_id}
 use Rattle.tk_explanations.proofs.SearchLemmas.{searched_more, searched_here, searched_before, searched_all}
 use Rattle.tk_explanations.proofs.event_searches.registration.Goals as goal

@@ -1,6 +1,6 @@
 use Rattle.std.specs.Prelude.{codes}
 use Rattle.std.specs.Fmt.{decimal}
-use Rattle.tk_record_columns.specs.Entries.{desc}
+use Rattle.tk_record.specs.Entries.{desc}
 use Rattle.tk_explanations.specs.Rows.{descriptor_text}
 use Rattle.tk_explanations.proofs.PieceRows.{adds_six}
 use Rattle.tk_explanations.proofs.explanations.put_span.Goals as goal

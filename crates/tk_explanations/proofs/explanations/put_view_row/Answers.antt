@@ -1,6 +1,6 @@
 use Rattle.std.specs.Prelude.{codes}
 use Rattle.std.specs.Fmt.{decimal}
-use Rattle.tk_record_columns.specs.Record.{entry_of_view}
+use Rattle.tk_record.specs.Record.{entry_of_view}
 use Rattle.tk_explanations.specs.Rows.{event_text, note_text}
 use Rattle.tk_explanations.proofs.PieceRows.{adds_five}
 use Rattle.tk_explanations.proofs.explanations.put_view_row.Goals as goal

@@ -1,5 +1,5 @@
 use Rattle.std.proofs.Common.{length, ap, ◌∙◌, arith}
-use Rattle.tk_record_columns.specs.Recorded.{Recorded}
+use Rattle.tk_record.specs.Recorded.{Recorded}
 use Rattle.tk_query.proofs.AskedLemmas.{AreFlags}
 use Rattle.tk_explanations.proofs.Stuck.{fit_within}
 use Rattle.tk_explanations.proofs.in_order.after.Goals as goal

@@ -1,5 +1,5 @@
 use Rattle.tk_explanations.specs.Matches.{IsInOrderExplanation}
-use Rattle.tk_explanations.proofs.Explaining.{explained}
+use Rattle.tk_explanations.proofs.ExplanationRows.{explained}
 use Rattle.tk_explanations.proofs.in_order.explain_in_order.Goals as goal
 
 pub returns-clause-written : goal.returns-clause-written

@@ -1,6 +1,6 @@
 use Rattle.std.proofs.Common.{refl}
 use Rattle.tk_explanations.specs.Lifecycles.{IsLifecycleExplanation}
-use Rattle.tk_explanations.proofs.Explaining.{explained}
+use Rattle.tk_explanations.proofs.ExplanationRows.{explained}
 use Rattle.tk_explanations.proofs.lifecycles.explain_lifecycle.Goals as goal
 
 pub returns-clause-written : goal.returns-clause-written

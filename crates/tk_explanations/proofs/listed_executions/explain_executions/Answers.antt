@@ -1,6 +1,6 @@
 use Rattle.std.proofs.Common.{true, ap, refl}
 use Rattle.std.specs.List.{flat_map}
-use Rattle.tk_record_columns.specs.Recorded.{Recorded}
+use Rattle.tk_record.specs.Recorded.{Recorded}
 use Rattle.tk_explanations.specs.Lists.{listed_execution}
 use Rattle.tk_explanations.proofs.listed_executions.explain_executions.Goals as goal
 

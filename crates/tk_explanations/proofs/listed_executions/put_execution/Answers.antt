@@ -1,6 +1,6 @@
 use Rattle.std.proofs.Common.{◌∷◌, [], ◌∙◌}
 use Rattle.tk_streams.proofs.PieceLemmas.{adds_as}
-use Rattle.tk_record_columns.specs.Entries.{desc}
+use Rattle.tk_record.specs.Entries.{desc}
 use Rattle.tk_explanations.specs.Lists.{execution_head}
 use Rattle.tk_explanations.specs.Rows.{id_field}
 use Rattle.tk_explanations.proofs.PieceRows.{adds_three}

@@ -1,5 +1,5 @@
 use Rattle.tk_explanations.specs.Matches.{IsLooseExplanation}
-use Rattle.tk_explanations.proofs.Explaining.{explained}
+use Rattle.tk_explanations.proofs.ExplanationRows.{explained}
 use Rattle.tk_explanations.proofs.loosely.explain_loosely.Goals as goal
 
 pub returns-clause-written : goal.returns-clause-written

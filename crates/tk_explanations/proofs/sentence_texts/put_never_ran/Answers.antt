@@ -1,5 +1,5 @@
 use Rattle.std.specs.Prelude.{codes}
-use Rattle.tk_record_columns.specs.Entries.{desc}
+use Rattle.tk_record.specs.Entries.{desc}
 use Rattle.tk_explanations.specs.Rows.{descriptor_text}
 use Rattle.tk_explanations.specs.Sentences.{success_text}
 use Rattle.tk_explanations.proofs.PieceRows.{adds_three}

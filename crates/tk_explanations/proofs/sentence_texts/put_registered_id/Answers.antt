@@ -1,6 +1,6 @@
 use Rattle.std.specs.Fmt.{decimal}
 use Rattle.std.specs.Prelude.{codes}
-use Rattle.tk_record_columns.specs.Entries.{desc}
+use Rattle.tk_record.specs.Entries.{desc}
 use Rattle.tk_explanations.specs.DescriptorTexts.{quoted_name}
 use Rattle.tk_explanations.proofs.PieceRows.{adds_four}
 use Rattle.tk_explanations.proofs.sentence_texts.put_registered_id.Goals as goal

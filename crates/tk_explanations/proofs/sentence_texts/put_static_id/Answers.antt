@@ -1,5 +1,5 @@
 use Rattle.std.specs.Prelude.{codes}
-use Rattle.tk_record_columns.specs.Entries.{desc}
+use Rattle.tk_record.specs.Entries.{desc}
 use Rattle.tk_streams.proofs.PieceLemmas.{adds_both}
 use Rattle.tk_explanations.specs.DescriptorTexts.{quoted_name}
 use Rattle.tk_explanations.proofs.sentence_texts.put_static_id.Goals as goal

@@ -1,4 +1,4 @@
-use Rattle.tk_record_columns.specs.Entries.{desc}
+use Rattle.tk_record.specs.Entries.{desc}
 use Rattle.tk_streams.proofs.PieceLemmas.{adds_as, adds_both}
 use Rattle.tk_explanations.specs.Rows.{descriptor_text}
 use Rattle.tk_explanations.proofs.sentence_texts.put_subject.Goals as goal

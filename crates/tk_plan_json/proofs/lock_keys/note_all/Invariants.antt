@@ -1,5 +1,5 @@
 use Rattle.std.proofs.Common.{◌≡◌, drop}
-use Rattle.tk_plan_units.specs.Keys.{note_locks}
+use Rattle.tk_plan.specs.Keys.{note_locks}
 use Rattle.tk_plan_json.proofs.lock_keys.note_all.Given as goal
 
 abbrev pub invariant-loop-lock : goal.invariant-loop-lock

@@ -1,6 +1,6 @@
 use Rattle.std.proofs.Common.{◌++◌, ◌∷◌, [], ◌≤◌, ◌<◌, length, cond, refl, sym, ap, ◌∙◌, subst}
-use Rattle.tk_plan_units.specs.Keys.{note_locks}
-use Rattle.tk_plan_units.specs.Trees.{contents}
+use Rattle.tk_plan.specs.Keys.{note_locks}
+use Rattle.tk_plan.specs.Trees.{contents}
 use Rattle.tk_plan_json.specs.steps.CodeValues.{json_segment_text}
 use Rattle.tk_plan_json.specs.steps.Progress.{addition}
 use Rattle.tk_plan_json.proofs.CheckSteps.{twice_fault, full_fault, resource_fault, no_fault, below_limit, not_false, not_true}

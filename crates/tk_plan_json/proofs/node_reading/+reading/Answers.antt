@@ -4,9 +4,9 @@ use Rattle.std.proofs.lemmas.Result.{err_from_is_err_and}
 use Rattle.std.proofs.lemmas.List.{nil_from_length}
 use Rattle.serde_json.specs.View.{view}
 use Rattle.serde_json.specs.declared.value.Value.{Value}
-use Rattle.tk_plan_units.specs.declared.trees.nodes.NumberedNode.{NumberedNode}
-use Rattle.tk_plan_units.specs.Trees.{contents}
-use Rattle.tk_plan_members.specs.Checks.{item_at, first}
+use Rattle.tk_plan.specs.declared.trees.nodes.NumberedNode.{NumberedNode}
+use Rattle.tk_plan.specs.Trees.{contents}
+use Rattle.tk_plan_json_members.specs.Checks.{item_at, first}
 use Rattle.tk_plan_json.specs.Verdicts.{checks}
 use Rattle.tk_plan_json.specs.Progress.{IsNoted}
 use Rattle.tk_plan_json.specs.steps.Progress.{HasBelow}
@@ -14,7 +14,7 @@ use Rattle.tk_plan_json.specs.NodeInputs as spec
 use Rattle.tk_plan_json.specs.NodeInputs.{node_input, node_inputs_in, segment_in, id_of, below}
 use Rattle.tk_plan_json.specs.steps.CodeValues.{node_at, array_at}
 use Rattle.tk_plan_json.proofs.CheckSteps.{faults_also, meets_also}
-use Rattle.tk_plan_json.proofs.Going.{Goes, met_next, met_end, goes_next, goes_fault, goes_end, goes_nowhere, node_input_next, check_fault, parts_of, first_fault, second_verdict, both_added, below_verdict, leaf_verdict, leaf_added, node_added}
+use Rattle.tk_plan_json.proofs.NodeSteps.{Goes, met_next, met_end, goes_next, goes_fault, goes_end, goes_nowhere, node_input_next, check_fault, parts_of, first_fault, second_verdict, both_added, below_verdict, leaf_verdict, leaf_added, node_added}
 use Rattle.tk_plan_json.proofs.node_reading.+reading.Goals as goal
 
 pub read_all-returns-in_err-read_node : goal.read_all-returns-in_err-read_node

@@ -2,7 +2,7 @@ use Rattle.std.proofs.Common.{◌-◌, ◌+◌, ◌*◌, map}
 use Rattle.serde_json.specs.View.{view}
 use Rattle.tk_plan_json.specs.steps.CodeValues.{array_at}
 use Rattle.tk_plan_json.specs.NodeInputs.{node_inputs_in}
-use Rattle.tk_plan_json.proofs.Going.{Goes, Met}
+use Rattle.tk_plan_json.proofs.NodeSteps.{Goes, Met}
 use Rattle.tk_plan_json.proofs.node_reading.+reading.Given as goal
 
 abbrev pub decreases-read_all : goal.decreases-read_all

@@ -1,5 +1,5 @@
 use Rattle.std.proofs.Common.{◌≡◌, length, refl, arith}
-use Rattle.tk_plan_json.proofs.Going.{span_written}
+use Rattle.tk_plan_json.proofs.NodeSteps.{span_written}
 use Rattle.tk_plan_json.proofs.node_reading.end_node.Goals as goal
 
 pub returns : goal.returns

@@ -1,9 +1,9 @@
 use Rattle.std.proofs.Common.{◌≡◌, [], length, true, false, sym, ap, ◌∙◌, arith}
 use Rattle.std.specs.List.{count_by, list_all}
 use Rattle.std.proofs.lemmas.Result.{err_from_is_err_and}
-use Rattle.tk_plan_units.specs.Keys.{lock_keys}
-use Rattle.tk_plan_units.specs.Planned.{is_lawful_node}
-use Rattle.tk_plan_units.specs.Trees.{contents}
+use Rattle.tk_plan.specs.Keys.{lock_keys}
+use Rattle.tk_plan.specs.Planned.{is_lawful_node}
+use Rattle.tk_plan.specs.Trees.{contents}
 use Rattle.tk_plan_json.specs.Verdicts.{is_kind}
 use Rattle.tk_plan_json.specs.Progress.{IsNoted}
 use Rattle.tk_plan_json.specs.declared.read_nodes.ReadNodes.{ReadNodes}

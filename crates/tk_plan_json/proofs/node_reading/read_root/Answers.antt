@@ -1,7 +1,7 @@
 use Rattle.std.proofs.Common.{◌≡◌, ◌++◌, [], codes, true, sym, ap₂, ◌∙◌}
 use Rattle.serde_json.specs.View.{view}
-use Rattle.tk_plan_units.specs.Ids.{descriptors}
-use Rattle.tk_plan_units.specs.Trees.{flat, contents}
+use Rattle.tk_plan.specs.Ids.{descriptors}
+use Rattle.tk_plan.specs.Trees.{flat, contents}
 use Rattle.tk_plan_json.specs.Verdicts.{verdict}
 use Rattle.tk_plan_json.specs.NodeInputs as spec
 use Rattle.tk_plan_json.specs.NodeInputs.{root_at, node_inputs, grown}

@@ -2,7 +2,7 @@ use Rattle.std.proofs.Common.{None, Some, sym, ◌∙◌}
 use Rattle.tk_plan_json.specs.NodeInputs as spec
 use Rattle.tk_plan_json.specs.steps.CodeValues.{seen}
 use Rattle.tk_plan_json.proofs.CheckSteps.{node_started}
-use Rattle.tk_plan_json.proofs.Going.{leaf_below}
+use Rattle.tk_plan_json.proofs.NodeSteps.{leaf_below}
 use Rattle.tk_plan_json.proofs.node_reading.start_node.Goals as goal
 
 pub returns-then-checked : goal.returns-then-checked

@@ -1,5 +1,5 @@
 use Rattle.std.proofs.Common.{sym, ◌∙◌}
-use Rattle.tk_record_columns.specs.Record.{entry_of_view}
+use Rattle.tk_record.specs.Record.{entry_of_view}
 use Rattle.tk_query.proofs.HoldsLemmas.{holds-All, holds-Any}
 use Rattle.tk_query.proofs.judging.+holds.Goals as goal
 

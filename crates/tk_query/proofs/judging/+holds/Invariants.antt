@@ -1,6 +1,6 @@
 use Rattle.std.proofs.Common.{◌≡◌, true, false, take}
 use Rattle.std.specs.List.{list_all, list_any}
-use Rattle.tk_record_columns.specs.Record.{entry_of_view}
+use Rattle.tk_record.specs.Record.{entry_of_view}
 use Rattle.tk_query.specs.Holds.{holds}
 use Rattle.tk_query.proofs.judging.+holds.Given as goal
 

@@ -1,7 +1,7 @@
 use Rattle.std.proofs.Common.{true, false, not, map, sym, ap, ◌∙◌}
 use Rattle.std.specs.List.{list_all, list_any}
 use Rattle.std.proofs.lemmas.Result.{err_from_is_err_and}
-use Rattle.tk_record_columns.proofs.Picking.{if_ok_same}
+use Rattle.tk_record.proofs.PickedEntries.{if_ok_same}
 use Rattle.tk_query.specs.Holds.{holds}
 use Rattle.tk_query.specs.steps.Rules.{rule_holds}
 use Rattle.tk_query.proofs.AskedLemmas.{map_same}

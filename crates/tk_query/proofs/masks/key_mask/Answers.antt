@@ -2,7 +2,7 @@ use Rattle.std.proofs.Common.{map, length, length-take, arith, ◌∙◌, ap, �
 use Rattle.std.proofs.lemmas.List.{length-map, take_more}
 use Rattle.std.proofs.lemmas.Result.{err_from_is_err_and}
 use Rattle.std.specs.Prelude.{◌==◌}
-use Rattle.tk_record_columns.proofs.Picking.{if_ok_same}
+use Rattle.tk_record.proofs.PickedEntries.{if_ok_same}
 use Rattle.tk_events.specs.declared.events.Entry.{Entry}
 use Rattle.tk_query.specs.steps.Rules.{key_passes}
 use Rattle.tk_query.proofs.MaskLemmas.{column_more, column_done, map-map}

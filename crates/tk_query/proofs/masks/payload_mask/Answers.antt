@@ -2,7 +2,7 @@ use Rattle.std.proofs.Common.{◌≡◌, suc, ◌+◌, take, false, MatchOption,
 use Rattle.std.proofs.lemmas.List.{length-map}
 use Rattle.std.proofs.lemmas.Result.{err_from_is_err_and}
 use Rattle.std.specs.Prelude.{◌==◌}
-use Rattle.tk_record_columns.proofs.Picking.{if_ok_same}
+use Rattle.tk_record.proofs.PickedEntries.{if_ok_same}
 use Rattle.tk_query.specs.declared.rules.Rule.TheVariants.{Payload}
 use Rattle.tk_query.specs.steps.Rules.{rule_holds}
 use Rattle.tk_query_lifecycle.proofs.ListLemmas.{there}

@@ -1,5 +1,5 @@
 use Rattle.std.proofs.Common.{false}
-use Rattle.tk_record_columns.proofs.Picking.{if_ok_then}
+use Rattle.tk_record.proofs.PickedEntries.{if_ok_then}
 use Rattle.tk_query.specs.declared.rules.Rule.TheVariants.{Column, Payload, Descriptor, Members}
 use Rattle.tk_query.proofs.MaskLemmas.{mask_first, rule_mask_same}
 use Rattle.tk_query.proofs.masks.rule_mask.Goals as goal

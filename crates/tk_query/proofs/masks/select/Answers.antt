@@ -1,6 +1,6 @@
 use Rattle.std.proofs.Common.{map, ap, ◌∙◌}
-use Rattle.tk_record_columns.specs.Recorded.{Recorded}
-use Rattle.tk_record_columns.specs.Selections.{PositionedEntry, Selected}
+use Rattle.tk_record.specs.Recorded.{Recorded}
+use Rattle.tk_record.specs.Selections.{PositionedEntry, Selected}
 use Rattle.std.proofs.Common.{List}
 use Rattle.tk_query.specs.Holds.{holds}
 use Rattle.tk_query.proofs.AskedLemmas.{AreFlags, intersected_is}

@@ -1,6 +1,6 @@
 use Rattle.std.proofs.Common.{ap, ◌&&◌}
 use Rattle.tk_events.specs.declared.kinds.Kind.TheVariants as kind
-use Rattle.tk_record_columns.specs.Entries.{of_kind}
+use Rattle.tk_record.specs.Entries.{of_kind}
 use Rattle.tk_query_conditions.specs.declared.conditions.Condition as condition
 use Rattle.tk_query.specs.Holds.{reports}
 use Rattle.tk_query.proofs.HoldsLemmas.{pairs_are}

@@ -1,5 +1,5 @@
 use Rattle.std.proofs.Common.{◌&&◌, ap, sym, ◌∙◌}
-use Rattle.tk_record_columns.specs.Selections.{passes}
+use Rattle.tk_record.specs.Selections.{passes}
 use Rattle.tk_query.specs.steps.Rules.{payload_passes, rule_holds}
 use Rattle.tk_query.proofs.RuleLemmas.{some_map}
 use Rattle.tk_query.proofs.rules.test_of_rule.Goals as goal

@@ -1,5 +1,5 @@
 use Rattle.std.proofs.Common.{arith, length, refl, subst}
-use Rattle.tk_record_columns.specs.Record.{entry_of_view}
+use Rattle.tk_record.specs.Record.{entry_of_view}
 use Rattle.tk_query_lifecycle.specs.Lifecycle.{first_entries}
 use Rattle.tk_query_lifecycle.specs.steps.Progress.{IsTaken, next_event}
 use Rattle.tk_query_lifecycle.proofs.LoopLemmas.{followed_more, stands_at, unfinished, never_ran, kept, known_at_end, past_all}

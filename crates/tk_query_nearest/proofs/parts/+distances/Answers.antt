@@ -1,5 +1,5 @@
 use Rattle.std.proofs.Common.{ap, ◌∙◌}
-use Rattle.tk_record_columns.specs.Record.{entry_of_view}
+use Rattle.tk_record.specs.Record.{entry_of_view}
 use Rattle.tk_query_nearest.specs.Parts.{distance}
 use Rattle.tk_query_nearest.proofs.TakenLemmas.{all_is, distance_taken}
 use Rattle.tk_query_nearest.proofs.parts.+distances.Goals as goal

@@ -2,7 +2,7 @@ use Rattle.std.proofs.Common.{◌≡◌, ◌<◌, ◌≤◌, ℕ, length, map, O
 use Rattle.std.specs.List.{AllByRecursion}
 use Rattle.std.proofs.lemmas.List.Elements.{All-from_recursion}
 use Rattle.std.proofs.lemmas.Result.{err_from_is_err_and}
-use Rattle.tk_limits.specs.declared.limits.TheConstants.{MAX_WORKERS}
+use Rattle.tk_base.specs.declared.limits.TheConstants.{MAX_WORKERS}
 use Rattle.tk_queue_replay.specs.Replay.{IsTurn}
 use Rattle.tk_queue_replay.specs.ReplayText.{scripts_by}
 use Rattle.tk_queue_replay.proofs.TextSteps.{scripts_count, replay_here, replay_fault, replay_done}

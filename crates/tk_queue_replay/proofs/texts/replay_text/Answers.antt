@@ -4,11 +4,11 @@ use Rattle.std.specs.Prelude.{IfSome, IsErrOf}
 use Rattle.std.specs.Io.KnownBytes.{Appends}
 use Rattle.std.proofs.lemmas.Result.{err_from_is_err_and}
 use Rattle.std.proofs.lemmas.Bool.{both_ways}
-use Rattle.tk_record_columns.specs.Recorded.{Recorded}
-use Rattle.tk_record.specs.Text.{text}
-use Rattle.tk_record.specs.declared.reading.TheConstants.{MAX_TEXT}
-use Rattle.tk_record.specs.declared.writing.WriteFault.{WriteFault}
-use Rattle.tk_record.specs.declared.writing.WriteFault.TheVariants as writing
+use Rattle.tk_record.specs.Recorded.{Recorded}
+use Rattle.tk_record_text.specs.Text.{text}
+use Rattle.tk_record_text.specs.declared.reading.TheConstants.{MAX_TEXT}
+use Rattle.tk_record_text.specs.declared.writing.WriteFault.{WriteFault}
+use Rattle.tk_record_text.specs.declared.writing.WriteFault.TheVariants as writing
 use Rattle.tk_streams.specs.Stream.{IsLoaded, AppendsPrefix, ConsumesUpTo}
 use Rattle.tk_streams.specs.declared.transfers.TheConstants.{CHUNK}
 use Rattle.tk_streams.specs.declared.transfers.LoadFault.{LoadFault}

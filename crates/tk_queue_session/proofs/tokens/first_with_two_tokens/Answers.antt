@@ -1,7 +1,7 @@
 use Rattle.std.proofs.Common.{◌≡◌, ◌<◌, ℕ, subst, arith, rules}
-use Rattle.tk_record_columns.specs.Mixing.{IsWorkerOf}
+use Rattle.tk_record.specs.Mixing.{IsWorkerOf}
 use Rattle.tk_queue_session.specs.Tokens.{tokens_of}
-use Rattle.tk_queue_session.proofs.Closing.{none_more, none_of}
+use Rattle.tk_queue_session.proofs.CloseConclusions.{none_more, none_of}
 use Rattle.tk_queue_session.proofs.tokens.first_with_two_tokens.Goals as goal
 
 pub loop-worker-preserved : goal.loop-worker-preserved

@@ -1,5 +1,5 @@
 use Rattle.std.proofs.Common.{◌∙◌}
-use Rattle.tk_report_text.proofs.Keeping.{gathers_all, gathers_next, gathers_none, next_known}
+use Rattle.tk_report_text.proofs.LinesById.{gathers_all, gathers_next, gathers_none, next_known}
 use Rattle.tk_report_text.proofs.grouping.lines_of.Goals as goal
 
 pub entries-init : goal.entries-init

@@ -1,4 +1,4 @@
-use Rattle.tk_report_text.proofs.Keeping.{Gathers}
+use Rattle.tk_report_text.proofs.LinesById.{Gathers}
 use Rattle.tk_report_text.proofs.grouping.lines_of.Given as goal
 
 abbrev pub invariant-entries : goal.invariant-entries

@@ -1,4 +1,4 @@
-use Rattle.tk_report_text.proofs.Reporting.{id_added}
+use Rattle.tk_report_text.proofs.ReportParts.{id_added}
 use Rattle.tk_report_text.proofs.writing.put_ids.Goals as goal
 
 pub ids-preserved : goal.ids-preserved

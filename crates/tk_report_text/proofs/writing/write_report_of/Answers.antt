@@ -1,5 +1,5 @@
 use Rattle.std.proofs.Common.{sym, ◌∙◌}
-use Rattle.tk_report_text.proofs.Reporting.{none_written}
+use Rattle.tk_report_text.proofs.ReportParts.{none_written}
 use Rattle.tk_report_text.proofs.writing.write_report_of.Goals as goal
 
 pub returns-clause-err : goal.returns-clause-err

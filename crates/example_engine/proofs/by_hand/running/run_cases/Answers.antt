@@ -1,5 +1,5 @@
-use Rattle.engine_testkit.proofs.Emitting.{emitted_as_then}
-use Rattle.engine_testkit.proofs.Growing.{grew_trans}
+use Rattle.engine_testkit.proofs.Emissions.{emitted_as_then}
+use Rattle.engine_testkit.proofs.SinkGrowth.{grew_trans}
 use Rattle.engine_testkit.specs.Grown.{AnyEvent}
 use Rattle.example_engine.proofs.MoreCases.{one_case_more}
 use Rattle.example_engine.proofs.by_hand.running.run_cases.Goals as goal

@@ -1,4 +1,4 @@
-use Rattle.engine_testkit.proofs.Growing.{grew_trans}
+use Rattle.engine_testkit.proofs.SinkGrowth.{grew_trans}
 use Rattle.engine_testkit.specs.Grown.{AnyEvent}
 use Rattle.example_engine.proofs.by_hand.running.run_registered.Goals as goal
 

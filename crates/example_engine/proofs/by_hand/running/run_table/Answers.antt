@@ -1,7 +1,7 @@
 use Rattle.std.proofs.Common.{refl}
 use Rattle.std.proofs.lemmas.Result.{on_ok_weaker}
-use Rattle.engine_testkit.proofs.Emitting.{emitted_first, emitted_then}
-use Rattle.engine_testkit.proofs.Growing.{grew_refl, grew_trans}
+use Rattle.engine_testkit.proofs.Emissions.{emitted_first, emitted_then}
+use Rattle.engine_testkit.proofs.SinkGrowth.{grew_refl, grew_trans}
 use Rattle.engine_testkit.specs.Grown.{AnyEvent}
 use Rattle.example_engine.proofs.by_hand.running.run_table.Goals as goal
 

@@ -2,7 +2,7 @@ use Rattle.std.proofs.Common.{◌≡◌, ◌∷◌, ◌++◌, [], arith, ap, sym
 use Rattle.std.proofs.lemmas.Grind.{common_steps}
 use Rattle.std.proofs.lemmas.List.Elements.{All-pop}
 use Rattle.tk_engine_runs.specs.Claims.{ClaimView, ClaimSeatView, Claims}
-use Rattle.tk_engine_runs.proofs.Drawing.{Pooled, joins, pools, pools_more, closes}
+use Rattle.tk_engine_runs.proofs.ClaimSteps.{Pooled, joins, pools, pools_more, closes}
 use Rattle.tk_engine_runs.proofs.claims.Claim.close.Goals as goal
 
 pub join_seat-requires : goal.join_seat-requires

@@ -1,6 +1,6 @@
 use Rattle.std.proofs.Common.{◌≡◌, ◌++◌, vec_len, List, All}
 use Rattle.tk_engine_runs.specs.Claims.{ClaimSeatView}
-use Rattle.tk_engine_runs.proofs.Drawing.{Pooled}
+use Rattle.tk_engine_runs.proofs.ClaimSteps.{Pooled}
 use Rattle.tk_engine_runs.proofs.claims.Claim.close.Given as goal
 
 abbrev pub invariant-loop-next : goal.invariant-loop-next

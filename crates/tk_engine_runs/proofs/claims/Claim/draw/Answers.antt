@@ -1,7 +1,7 @@
 use Rattle.std.proofs.Common.{◌≡◌, ℕ, sym, ap, ◌∙◌, subst, cond, false, arith}
 use Rattle.tk_engine_runs.specs.Claims.{ClaimView, ClaimSeatView}
 use Rattle.tk_engine_runs.specs.ClaimViews.{IsClaimant}
-use Rattle.tk_engine_runs.proofs.Drawing.{draws, risen, stopped}
+use Rattle.tk_engine_runs.proofs.ClaimSteps.{draws, risen, stopped}
 use Rattle.tk_engine_runs.proofs.claims.Claim.draw.Goals as goal
 
 pub fetch_add-found-requires : goal.fetch_add-found-requires

@@ -1,5 +1,5 @@
 use Rattle.std.proofs.Common.{arith, refl}
-use Rattle.tk_engine_runs.proofs.Drawing.{opens}
+use Rattle.tk_engine_runs.proofs.ClaimSteps.{opens}
 use Rattle.tk_engine_runs.proofs.claims.Claim.open.Goals as goal
 
 pub of_words-requires : goal.of_words-requires

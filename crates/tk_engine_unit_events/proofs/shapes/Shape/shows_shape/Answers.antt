@@ -1,7 +1,7 @@
 use Rattle.std.proofs.Common.{◌≡◌, ap, subst, ◌∙◌}
 use Rattle.tk_ids.specs.Table.{AreDifferent}
-use Rattle.tk_plan_units.specs.Numbers.{IsNumbered}
-use Rattle.tk_plan_units.specs.Planned.{IsPlanned, Outline}
+use Rattle.tk_plan.specs.Numbers.{IsNumbered}
+use Rattle.tk_plan.specs.Planned.{IsPlanned, Outline}
 use Rattle.tk_engine_unit_events.specs.Owners.{AreOwners}
 use Rattle.tk_engine_unit_events.specs.Shapes.{ShapeView}
 use Rattle.tk_engine_unit_events.proofs.Shaped.{have_places, keeps_around}

@@ -2,7 +2,7 @@ use Rattle.std.proofs.Common.{ap, sym, ◌∙◌}
 use Rattle.tk_engine_unit_events.specs.Running.{with_ids}
 use Rattle.tk_engine_unit_events.specs.Units.{UnitKeys}
 use Rattle.tk_engine_unit_events.proofs.Played.{played_none}
-use Rattle.tk_engine_unit_events.proofs.Running.{began}
+use Rattle.tk_engine_unit_events.proofs.UnitStates.{began}
 use Rattle.tk_engine_unit_events.proofs.UnitSteps.{extends_same}
 use Rattle.tk_engine_unit_events.proofs.Taken.{noted_none}
 use Rattle.tk_engine_unit_events.proofs.unit_events.UnitEvents.begin.Goals as goal

@@ -1,6 +1,6 @@
 use Rattle.std.proofs.Common.{◌≡◌, ◌≤◌, ◌∙◌, ap, subst, sym, arith, tests, true, false}
 use Rattle.tk_engine_unit_events.specs.Running.{with_ids}
-use Rattle.tk_engine_unit_events.proofs.Running.{at_none, ran_all}
+use Rattle.tk_engine_unit_events.proofs.UnitStates.{at_none, ran_all}
 use Rattle.tk_engine_unit_events.proofs.unit_events.UnitEvents.end.Goals as goal
 use Rattle.tk_engine_unit_events.proofs.unit_events.UnitEvents.end.Goals.{then-rests, else-rests}
 

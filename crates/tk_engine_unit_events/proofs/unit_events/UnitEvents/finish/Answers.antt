@@ -8,7 +8,7 @@ use Rattle.tk_engine_unit_events.specs.declared.running_keys.RunningKey.{Running
 use Rattle.tk_engine_unit_events.specs.Running.{keys_of, with_id, with_ids}
 use Rattle.tk_engine_unit_events.specs.Units.{HasPlayed}
 use Rattle.tk_engine_unit_events.proofs.Played.{played_more}
-use Rattle.tk_engine_unit_events.proofs.Running.{popped, ran_finish}
+use Rattle.tk_engine_unit_events.proofs.UnitStates.{popped, ran_finish}
 use Rattle.tk_engine_execute.specs.Engines.{Extends}
 use Rattle.tk_engine_unit_events.proofs.UnitSteps.{extends_more}
 use Rattle.tk_engine_unit_events.proofs.Taken.{noted_after}

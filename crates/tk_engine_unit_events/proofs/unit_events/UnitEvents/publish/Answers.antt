@@ -9,7 +9,7 @@ use Rattle.tk_engine_unit_events.specs.Running.{keys_of, with_id, with_ids}
 use Rattle.tk_engine_unit_events.specs.Standing.{AreNoted}
 use Rattle.tk_engine_unit_events.specs.Units.{HasPlayed}
 use Rattle.tk_engine_unit_events.proofs.Played.{played_plain, published_is_no_step}
-use Rattle.tk_engine_unit_events.proofs.Running.{after_emit, ran_published}
+use Rattle.tk_engine_unit_events.proofs.UnitStates.{after_emit, ran_published}
 use Rattle.tk_engine_execute.specs.Engines.{Extends}
 use Rattle.tk_engine_unit_events.proofs.Taken.{noted_after}
 use Rattle.tk_engine_unit_events.proofs.unit_events.UnitEvents.publish.Goals as goal

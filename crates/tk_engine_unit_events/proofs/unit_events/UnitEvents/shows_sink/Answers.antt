@@ -1,7 +1,7 @@
 use Rattle.std.proofs.Common.{subst}
 use Rattle.tk_engine_execute.specs.Engines.{Extends, IsSameSender}
 use Rattle.tk_engine_unit_events.specs.UnitSteps.{UnitView}
-use Rattle.tk_engine_unit_events.proofs.Running.{ran_same, ran_some}
+use Rattle.tk_engine_unit_events.proofs.UnitStates.{ran_same, ran_some}
 use Rattle.tk_engine_unit_events.proofs.unit_events.UnitEvents.shows_sink.Goals as goal
 
 pub returns-clause-same : goal.returns-clause-same

@@ -4,7 +4,7 @@ use Rattle.tk_engine_lifecycle.specs.Units.{Frame}
 use Rattle.tk_engine_unit_events.specs.Covered.{IsKeyBelow}
 use Rattle.tk_engine_unit_events.specs.Running.{with_ids}
 use Rattle.tk_engine_unit_events.proofs.Played.{played_skip}
-use Rattle.tk_engine_unit_events.proofs.Running.{described_here, may_here, skipped}
+use Rattle.tk_engine_unit_events.proofs.UnitStates.{described_here, may_here, skipped}
 use Rattle.tk_engine_execute.specs.Engines.{Extends}
 use Rattle.tk_engine_unit_events.proofs.UnitSteps.{extends_more}
 use Rattle.tk_engine_unit_events.proofs.Taken.{noted_after}

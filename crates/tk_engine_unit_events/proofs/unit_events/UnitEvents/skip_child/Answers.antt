@@ -8,7 +8,7 @@ use Rattle.tk_engine_unit_events.specs.Standing.{StandsAt}
 use Rattle.tk_engine_unit_events.specs.UnitSteps.{UnitView, event}
 use Rattle.tk_engine_unit_events.specs.declared.running_keys.RunningKey.{RunningKey}
 use Rattle.tk_engine_unit_events.proofs.Registered.{registers, stands_registered, stands_skipped}
-use Rattle.tk_engine_unit_events.proofs.Running.{after_emit}
+use Rattle.tk_engine_unit_events.proofs.UnitStates.{after_emit}
 use Rattle.tk_engine_unit_events.proofs.Taken.{is_noted, not_taken, runs_none, unregistered, unsent}
 use Rattle.tk_engine_unit_events.proofs.UnitSteps.{err_of, extends_child, extends_more}
 use Rattle.tk_engine_unit_events.proofs.UnitSteps.{grew_registered, grew_same, if_err, if_err_then}

@@ -1,7 +1,7 @@
 use Rattle.std.proofs.Common.{◌∷◌, ap, refl, sym, subst, ◌∙◌, arith}
 use Rattle.tk_engine_unit_events.specs.Running.{keys_of, id_at, with_ids}
 use Rattle.tk_engine_unit_events.proofs.Played.{played_start}
-use Rattle.tk_engine_unit_events.proofs.Running.{may_here, started, static_is}
+use Rattle.tk_engine_unit_events.proofs.UnitStates.{may_here, started, static_is}
 use Rattle.tk_engine_execute.specs.Engines.{Extends}
 use Rattle.tk_engine_unit_events.proofs.UnitSteps.{extends_more}
 use Rattle.tk_engine_unit_events.proofs.Taken.{noted_after}

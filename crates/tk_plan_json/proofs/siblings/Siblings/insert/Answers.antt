@@ -4,7 +4,7 @@ use Rattle.tk_ids.specs.IdText.{SegmentView}
 use Rattle.tk_plan_json.specs.steps.SegmentSets.{segments_of}
 use Rattle.tk_plan_json.specs.steps.CodeValues.{json_segment_text}
 use Rattle.tk_plan_json.specs.Verdicts.{same_segment}
-use Rattle.tk_plan_json.proofs.Meeting.{any_met}
+use Rattle.tk_plan_json.proofs.SegmentSets.{any_met}
 use Rattle.tk_plan_json.proofs.siblings.Siblings.insert.Goals as goal
 
 pub returns-clause-answer : goal.returns-clause-answer

@@ -1,5 +1,5 @@
 use Rattle.std.proofs.Common.{sym, subst}
-use Rattle.tk_record_columns.specs.Record.{entry_of_view}
+use Rattle.tk_record.specs.Record.{entry_of_view}
 use Rattle.tk_query_lifecycle.specs.Lifecycle.{BreaksFirst}
 use Rattle.tk_query_lifecycle.proofs.EventLemmas.{checked_known, checked_missing, checked_at_rest, checked_own, checked_none}
 use Rattle.tk_query_lifecycle.proofs.progress.Progress.check.Goals as goal

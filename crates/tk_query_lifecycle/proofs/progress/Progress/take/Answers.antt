@@ -1,6 +1,6 @@
 use Rattle.std.proofs.Common.{refl, sym, ap, ◌∙◌}
 use Rattle.std.specs.Option.{option_copied}
-use Rattle.tk_record_columns.specs.Record.{entry_of_view}
+use Rattle.tk_record.specs.Record.{entry_of_view}
 use Rattle.tk_query_lifecycle.specs.Lifecycle.{first_entries}
 use Rattle.tk_query_lifecycle.proofs.FirstEntries.{its_id}
 use Rattle.tk_query_lifecycle.proofs.EventLemmas.{few_children}

@@ -1,10 +1,10 @@
 use Rattle.std.proofs.Common.{◌≡◌, ◌∙◌, [], length, map, sym, ap, subst, append-nil}
 use Rattle.std.specs.Vec.Iter.{into_iter_items}
-use Rattle.tk_lemmas.proofs.Lists.{nil_from_length}
+use Rattle.tk_base.proofs.Lists.{nil_from_length}
 use Rattle.tk_queue_session.specs.steps.Tokens.{pass_of_token}
 use Rattle.tk_queue_session.specs.PassViews.{IsReader, pass_of_receiver}
 use Rattle.tk_queue_session.specs.SessionRule.{Concludes}
-use Rattle.tk_queue_session.proofs.Closing.{mixes, ends_with_marks}
+use Rattle.tk_queue_session.proofs.CloseConclusions.{mixes, ends_with_marks}
 use Rattle.tk_queue_session.proofs.RuleSteps.{merges_own, learns_own, may_take_in}
 use Rattle.tk_queue_session.proofs.receivers.Receiver.join.Goals as goal
 

@@ -2,7 +2,7 @@ use Rattle.std.proofs.Common.{subst}
 use Rattle.tk_queue_session.specs.Closing.{IsCloseFault, IsComplete}
 use Rattle.tk_queue_session.specs.Receivers.{taken_of}
 use Rattle.tk_queue_session.specs.declared.close_faults.CloseReason.TheVariants.{Missing, Twice, NotDrained}
-use Rattle.tk_queue_session.proofs.Closing.{some_token, one_token, marks_missing, marks_whole, if_none_from}
+use Rattle.tk_queue_session.proofs.CloseConclusions.{some_token, one_token, marks_missing, marks_whole, if_none_from}
 use Rattle.crossbeam_queue.specs.Passes.{view}
 use Rattle.tk_queue_session.proofs.receivers.Receiver.why_not_closed.Goals as goal
 

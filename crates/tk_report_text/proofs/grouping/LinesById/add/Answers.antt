@@ -1,5 +1,5 @@
 use Rattle.std.proofs.Common.{ap, set}
-use Rattle.tk_report_text.proofs.Keeping.{line_added, on_ok}
+use Rattle.tk_report_text.proofs.LinesById.{line_added, on_ok}
 use Rattle.tk_report_text.proofs.grouping.LinesById.add.Goals as goal
 
 pub returns : goal.returns

@@ -1,7 +1,7 @@
 use Rattle.std.proofs.Common.{sym, ap}
 use Rattle.tk_ids.specs.IdText.{id_text}
 use Rattle.tk_report_text.specs.Labels.{id_in}
-use Rattle.tk_report_text.proofs.Keeping.{key_added, unchanged}
+use Rattle.tk_report_text.proofs.LinesById.{key_added, unchanged}
 use Rattle.tk_report_text.proofs.grouping.LinesById.index_of_dynamic_key.Goals as goal
 
 pub returns-in-Some : goal.returns-in-Some

@@ -1,6 +1,0 @@
-use Rattle.std.proofs.Common.{◌∙◌}
-use Rattle.tk_book.proofs.Gathering.{empty_sum}
-use Rattle.tk_book.proofs.books.Book.close.Goals as goal
-
-pub returns : goal.returns
-returns c = c.into_word.ensures.word ∙ empty_sum _ c.requires.empty

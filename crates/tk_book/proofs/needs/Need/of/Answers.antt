@@ -1,5 +1,0 @@
-use Rattle.tk_book.proofs.Masks.{masked}
-use Rattle.tk_book.proofs.needs.Need.of.Goals as goal
-
-pub returns : goal.returns
-returns c = λ r lt. masked c.args.reads c.args.writes r lt c.ranges.writes.fits

@@ -1,6 +1,0 @@
-use Rattle.tk_engine_laws.proofs.Grounds.{models, trees_of}
-use Rattle.tk_engine_laws.proofs.ListenerSteps.{listener_law}
-use Rattle.tk_engine_laws.proofs.laws.listener.Goals as goal
-
-pub returns : goal.returns
-returns c = λ nodes table workers r planned numbers run. listener_law nodes table (trees_of nodes) workers r (models nodes table planned numbers) run

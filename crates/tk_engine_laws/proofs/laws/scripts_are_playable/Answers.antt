@@ -1,5 +1,0 @@
-use Rattle.tk_engine_laws.proofs.Playing.{playable}
-use Rattle.tk_engine_laws.proofs.laws.scripts_are_playable.Goals as goal
-
-pub returns : goal.returns
-returns c = λ nodes table unit planned numbers. playable nodes table unit planned numbers

@@ -1,0 +1,2 @@
+pub mod RegisteredKeys
+pub mod ScriptSteps

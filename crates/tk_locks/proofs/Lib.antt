@@ -1,0 +1,10 @@
+pub mod LaneWords
+pub mod LaneConflicts
+pub mod Masks
+pub mod ListSums
+pub mod BookSteps
+pub mod RefusedTries
+pub mod GatheredSeats
+pub mod HoldingSteps
+pub mod LoneWriters
+pub mod SeatSplits

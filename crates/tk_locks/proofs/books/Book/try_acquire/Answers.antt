@@ -1,0 +1,23 @@
+use Rattle.std.proofs.Common.{◌∙◌, ◌≡◌, ◌+◌, ◌<◌, ◌^◌, ◌∷◌, [], Option, None, sym, ap, refl, arith}
+use Rattle.atomic_table.specs.Table.{Me}
+use Rattle.tk_locks.specs.NeedView.{NeedView}
+use Rattle.tk_locks.specs.Books.{BookView, BookSeatView}
+use Rattle.tk_locks.specs.declared.rules.SeatNote.{SeatNote}
+use Rattle.tk_locks.proofs.LaneWords.{has_room}
+use Rattle.tk_locks.proofs.BookSteps.{looks, takes}
+use Rattle.tk_locks.proofs.books.Book.try_acquire.Goals as goal
+
+pub load-seen-requires : goal.load-seen-requires
+load-seen-requires c = let same = ap (λ (z : BookSeatView). z.book) c.seat.view_is ∙ c.requires.of_this ∙ sym c.self.view_is in
+    (ap (λ (z : BookView). z.table) same, omega arith, looks _ _ _ c.seat.inside.seat.me)
+
+pub overflow_add-seen : goal.overflow_add-seen
+overflow_add-seen c = let room : c.load-seen.result + c.word-word.result < 2 ^ 64 = has_room 16 c.load-seen.result c.word-word.result (c.if-not-admits.ensures.0 refl) (omega arith) (omega arith) in omega arith
+
+pub compare_exchange_with-found-requires : goal.compare_exchange_with-found-requires
+compare_exchange_with-found-requires c = let same = ap (λ (z : BookSeatView). z.book) c.seat.view_is ∙ c.requires.of_this ∙ sym c.self.view_is in let after = c.load-seen.ensures.2.0 in
+    let none : c.load-seen.new.seat.me.0.held ≡ None ∷ [] = ap (λ (m : Me NeedView SeatNote). m.0.held) after ∙ c.seat.invariant.one ∙ ap (λ (h : Option NeedView). h ∷ []) (ap (λ (z : BookSeatView). z.holds) c.seat.view_is ∙ c.requires.empty) in (
+      c.load-seen.ensures.0 ∙ ap (λ (z : BookView). z.table) same,
+      omega arith,
+      takes _ _ _ c.load-seen.new.seat.me c.args.need c.load-seen.result c.word-word.result c.word-word.ensures none (c.if-not-admits.ensures.0 refl),
+    )

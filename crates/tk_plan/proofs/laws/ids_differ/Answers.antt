@@ -1,5 +1,0 @@
-use Rattle.tk_plan.proofs.PlanLawSteps.{plan_ids}
-use Rattle.tk_plan.proofs.laws.ids_differ.Goals as goal
-
-pub returns : goal.returns
-returns c = plan_ids

@@ -1,6 +1,0 @@
-use Rattle.std.proofs.Common.{◌≡◌, ◌++◌}
-use Rattle.tk_plan.specs.steps.Tables.{Follow}
-use Rattle.tk_plan.proofs.plan_reading.table_of.Given as goal
-
-abbrev pub invariant-loop-descriptor : goal.invariant-loop-descriptor
-invariant-loop-descriptor l = (l.table ++ l.descriptor-iterator.rest.items ≡ l.fn.descriptors.items) × Follow l.table l.descriptor-iterator.rest.items

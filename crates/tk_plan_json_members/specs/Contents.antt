@@ -1,0 +1,130 @@
+-- What the members of a node say, where nothing is wrong with them.
+use Rattle.std.specs.Prelude.{ℕ, ◌||◌, ◌++◌, List, [], ◌∷◌, Bool, true, false, not, Option, Some}
+use Rattle.std.specs.Prelude.{None, option_and_then, if◌then◌else◌, map, codes}
+use Rattle.std.specs.List.{list_any}
+use Rattle.std.specs.Str.{bytes_eq}
+use Rattle.std.specs.Ordering.{nat_cmp}
+use Rattle.std.specs.Cmp.Lexicographic.{slice_cmp}
+use Rattle.std.specs.BTreeMap.{insert_entry}
+use Rattle.serde_json.specs.Data.{Data, boolean, string, array}
+use Rattle.serde_json.specs.Find.{get}
+use Rattle.tk_ids.specs.IdText.{SegmentView}
+use Rattle.tk_ids.specs.declared.descriptors.DType.{DType}
+use Rattle.tk_ids.specs.declared.descriptors.DType.TheVariants.{Container, Test, Both}
+use Rattle.tk_events.specs.declared.statuses.Status.{Status}
+use Rattle.tk_events.specs.declared.statuses.Status.TheVariants.{Successful, Aborted, Failed}
+use Rattle.tk_plan.specs.declared.trees.nodes.Lock.{Lock}
+use Rattle.tk_plan_json_members.specs.Checks.{list_of}
+
+-- a text that has to be there
+abbrev pub json_text : Option Data → List ℕ
+json_text (Some (string s)) = s
+json_text _ = []
+
+-- a text that may be missing
+abbrev pub json_optional : Option Data → Option (List ℕ)
+json_optional (Some (string s)) = Some s
+json_optional _ = None
+
+-- false where it is missing
+abbrev pub json_truth : Option Data → Bool
+json_truth (Some (boolean b)) = b
+json_truth _ = false
+
+-- a type, by its name
+abbrev pub json_dtype : Option Data → DType
+json_dtype (Some (string s)) =
+    if bytes_eq s (codes "container") then Container
+    else (if bytes_eq s (codes "test") then Test else Both)
+json_dtype _ = Both
+
+-- the items of an array
+abbrev pub listed : Option Data → List Data
+listed (Some (array ds)) = list_of ds
+listed _ = []
+
+-- the first two items, as texts
+abbrev pub two_texts : List Data → List ℕ × List ℕ
+two_texts (a ∷ b ∷ ds) = (json_text (Some a), json_text (Some b))
+two_texts _ = ([], [])
+
+-- an array of two texts
+abbrev pub json_pair : Option Data → List ℕ × List ℕ
+json_pair d = two_texts (listed d)
+
+-- a tag and a value
+abbrev pub json_segment : Option Data → SegmentView
+json_segment d = record { tag = (json_pair d).0; value = (json_pair d).1 }
+
+-- a node may run beside its siblings only where its mode is `concurrent`
+abbrev pub json_concurrent : Option Data → Bool
+json_concurrent (Some (string s)) = bytes_eq s (codes "concurrent")
+json_concurrent _ = false
+
+-- a lock writes, unless its mode is `read`
+abbrev pub json_writes : Option Data → Bool
+json_writes (Some (string s)) = not (bytes_eq s (codes "read"))
+json_writes _ = true
+
+abbrev pub json_lock : Data → Lock
+json_lock d =
+    record { key = json_text (get (codes "key") d); writes = json_writes (get (codes "mode") d) }
+
+abbrev pub json_locks : Option Data → List Lock
+json_locks d = map json_lock (listed d)
+
+-- a node is successful where it has no result
+abbrev pub json_status : Option Data → Status
+json_status (Some (string s)) =
+    if bytes_eq s (codes "aborted") then Aborted
+    else (if bytes_eq s (codes "failed") then Failed else Successful)
+json_status _ = Successful
+
+-- the status of a result
+abbrev pub status_in : Option Data → Status
+status_in d = json_status (option_and_then (get (codes "status")) d)
+
+-- the message of a result
+abbrev pub message_in : Option Data → Option (List ℕ)
+message_in d = json_optional (option_and_then (get (codes "message")) d)
+
+-- the pairs of an entry, as they are written
+abbrev pub written : Data → List (List ℕ × List ℕ)
+written d = map (λ p. json_pair (Some p)) (listed (Some d))
+
+-- the pairs in increasing byte order of their keys, after those that are in that order
+abbrev pub put_all : List (List ℕ × List ℕ) → List (List ℕ × List ℕ) → List (List ℕ × List ℕ)
+put_all put [] = put
+put_all put (p ∷ ps) = put_all (insert_entry (slice_cmp nat_cmp) put p.0 p.1) ps
+
+-- the pairs in increasing byte order of their keys
+abbrev pub by_key : List (List ℕ × List ℕ) → List (List ℕ × List ℕ)
+by_key ps = put_all [] ps
+
+-- the pairs of an entry, by their keys
+abbrev pub json_entry : Data → List (List ℕ × List ℕ)
+json_entry d = by_key (written d)
+
+abbrev pub json_entries : Option Data → List (List (List ℕ × List ℕ))
+json_entries d = map json_entry (listed d)
+
+-- the path of a file
+abbrev pub json_path : Data → List ℕ
+json_path d = json_text (Some d)
+
+abbrev pub json_files : Option Data → List (List ℕ)
+json_files d = map json_path (listed d)
+
+-- a pair has the key of a pair before it, or of one of these
+abbrev pub repeats_after : List (List ℕ) → List (List ℕ × List ℕ) → Bool
+repeats_after keys [] = false
+repeats_after keys (p ∷ ps) = list_any (bytes_eq p.0) keys || repeats_after (keys ++ p.0 ∷ []) ps
+
+-- an entry has a key twice
+abbrev pub repeats : Data → Bool
+repeats d = repeats_after [] (written d)
+
+-- in version 1 a node has no files
+abbrev pub files_of : Bool → Data → List (List ℕ)
+files_of true d = json_files (get (codes "files") d)
+files_of false d = []

@@ -1,0 +1,146 @@
+-- Lists of lists of which all but one are empty.
+use Rattle.std.proofs.Common.{◌≡◌, ◌≢◌, ◌≤◌, ◌<◌, ℕ, zero, suc, ◌+◌, ◌⊎◌, List, [], ◌∷◌, ◌++◌, flat_map, Option, Some, None, slice_get, refl, sym, ap, ap₂, ◌∙◌, arith, append-nil, inl, inr, ⊎_elim, ◌==◌, tests, subst}
+use Rattle.std.proofs.lemmas.Bool.{cases_Bool}
+use Rattle.tk_base.proofs.Lists.{nil_left, nil_right}
+use Rattle.tk_plan_laws.proofs.Model.{AllNil, AtMostOne, Each, times, times_in}
+
+pub each_at : {A : Type 0} (P : A → Type 0) (xs : List A) (i : ℕ) (x : A) → Each P xs → slice_get xs i ≡ Some x → P x
+each_at P [] i x h e = cc
+each_at P (y ∷ ys) zero x h e = let same : y ≡ x = cc in subst P same h.0
+each_at P (y ∷ ys) (suc i) x h e = each_at P ys i x h.1 e
+
+pub each_from : {A : Type 0} (P : A → Type 0) (xs : List A) → ((i : ℕ) (x : A) → slice_get xs i ≡ Some x → P x) → Each P xs
+each_from P [] h = tt
+each_from P (x ∷ xs) h = (h 0 x refl, each_from P xs (λ i y e. h (suc i) y e))
+
+pub each-append : {A : Type 0} (P : A → Type 0) (xs ys : List A) → Each P xs → Each P ys → Each P (xs ++ ys)
+each-append P [] ys h g = g
+each-append P (x ∷ xs) ys h g = (h.0, each-append P xs ys h.1 g)
+
+pub each_split : {A : Type 0} (P : A → Type 0) (xs ys : List A) → Each P (xs ++ ys) → Each P xs × Each P ys
+each_split P [] ys h = (tt, h)
+each_split P (x ∷ xs) ys h = let e = each_split P xs ys h.1 in ((h.0, e.0), e.1)
+
+-- ---- at most one
+
+pub all_nil : {A B : Type 0} (g : A → List B) (xs : List A) → flat_map g xs ≡ [] → AllNil g xs
+all_nil g [] e = tt
+all_nil g (x ∷ xs) e = (nil_left (g x) _ e, all_nil g xs (nil_right (g x) _ e))
+
+pub nil_of_all : {A B : Type 0} (g : A → List B) (xs : List A) → AllNil g xs → flat_map g xs ≡ []
+nil_of_all g [] h = refl
+nil_of_all g (x ∷ xs) h = ap₂ (λ a b. a ++ b) h.0 (nil_of_all g xs h.1)
+
+pub one_of_nil : {A B : Type 0} (g : A → List B) (xs : List A) → AllNil g xs → AtMostOne g xs
+one_of_nil g [] h = tt
+one_of_nil g (x ∷ xs) h = inr h.1
+
+pub one_after : {A B : Type 0} (g : A → List B) (xs ys : List A) → AllNil g xs → AtMostOne g ys → AtMostOne g (xs ++ ys)
+one_after g [] ys h o = o
+one_after g (x ∷ xs) ys h o = inl (h.0, one_after g xs ys h.1 o)
+
+pub one_before : {A B : Type 0} (g : A → List B) (xs ys : List A) → AtMostOne g xs → AllNil g ys → AtMostOne g (xs ++ ys)
+one_before g [] ys o h = one_of_nil g ys h
+one_before g (x ∷ xs) ys (inl o) h = inl (o.0, one_before g xs ys o.1 h)
+one_before g (x ∷ xs) ys (inr o) h = inr (each-append (λ y. g y ≡ []) xs ys o h)
+
+-- all but the one at place k give nothing
+pub record IsLone {A B : Type 0} (g : A → List B) (xs : List A) : Type 0 where
+  pub position : ℕ
+  pub others : (i : ℕ) (x : A) → slice_get xs i ≡ Some x → i ≢ position → g x ≡ []
+
+later : {A B : Type 0} (g : A → List B) (x : A) (xs : List A) (k : ℕ) → g x ≡ [] → ((i : ℕ) (y : A) → slice_get xs i ≡ Some y → i ≢ k → g y ≡ [])
+    → (i : ℕ) (y : A) → slice_get (x ∷ xs) i ≡ Some y → i ≢ suc k → g y ≡ []
+later g x xs k e h zero y s n = let same : x ≡ y = cc in subst (λ z. g z ≡ []) same e
+later g x xs k e h (suc i) y s n = h i y s (λ same. n (ap suc same))
+
+first : {A B : Type 0} (g : A → List B) (x : A) (xs : List A) → AllNil g xs → (i : ℕ) (y : A) → slice_get (x ∷ xs) i ≡ Some y → i ≢ 0 → g y ≡ []
+first g x xs h zero y s n = absurd (n refl)
+first g x xs h (suc i) y s n = each_at (λ z. g z ≡ []) xs i y h s
+
+pub lone : {A B : Type 0} (g : A → List B) (xs : List A) → AtMostOne g xs → IsLone g xs
+lone g [] o = record { position = 0; others = λ i x e n. cc }
+lone g (x ∷ xs) (inl o) = let h = lone g xs o.1 in record { position = suc h.position; others = later g x xs h.position o.0 h.others }
+lone g (x ∷ xs) (inr o) = record { position = 0; others = first g x xs o }
+
+-- what stands at the place, if anything does
+abbrev pub at : {A B : Type 0} → (A → List B) → Option A → List B
+at g None = []
+at g (Some x) = g x
+
+-- all lists in turn are the one at the place
+pub lone_is : {A B : Type 0} (g : A → List B) (xs : List A) (k : ℕ) → ((i : ℕ) (x : A) → slice_get xs i ≡ Some x → i ≢ k → g x ≡ [])
+    → flat_map g xs ≡ at g (slice_get xs k)
+lone_is g [] k h = refl
+lone_is g (x ∷ xs) zero h =
+    ap (λ l. g x ++ l) (nil_of_all g xs (each_from (λ y. g y ≡ []) xs (λ i y e. h (suc i) y e (λ no. let bad : ⊥ = omega (arith, no) in bad)))) ∙ append-nil (g x)
+lone_is g (x ∷ xs) (suc k) h =
+    ap (λ l. l ++ flat_map g xs) (h 0 x refl (λ no. let bad : ⊥ = omega (arith, no) in bad))
+    ∙ lone_is g xs k (λ i y e n. h (suc i) y e (λ same. n (let p : i ≡ k = omega (arith, same) in p)))
+
+-- ---- lists by numbers that were drawn
+
+abbrev pub copies : {B : Type 0} → ℕ → List B → List B
+copies zero l = []
+copies (suc n) l = l ++ copies n l
+
+pub copies_by : {B : Type 0} (m n : ℕ) (l : List B) → m ≡ n → copies m l ≡ copies n l
+copies_by m n l e = ap (λ k. copies k l) e
+
+-- a list of numbers gives what one of them gives, as often as it stands there
+pub drawn_is : {B : Type 0} (g : ℕ → List B) (u : ℕ) (us : List ℕ) → ((v : ℕ) → v ≢ u → g v ≡ []) → flat_map g us ≡ copies (times u us) (g u)
+drawn_is g u [] h = refl
+drawn_is g u (v ∷ us) h =
+    let more = drawn_is g u us h in
+    ⊎_elim
+    (λ e. let same : v ≡ u = grind (arith, tests, e) in
+    rw e (ap₂ (λ a b. a ++ b) (ap g same) more ∙ sym (copies_by (1 + times u us) (suc (times u us)) (g u) (omega arith))))
+    (λ e. let differ : v ≢ u = grind (arith, tests, e) in rw e (ap (λ a. a ++ flat_map g us) (h v differ) ∙ more))
+    (cases_Bool (v == u))
+
+-- where u stands at most once in the lists together, one list at most has it, as often as all have it
+pub record IsSeat (u : ℕ) (lists : List (List ℕ)) : Type 0 where
+  pub seat : ℕ
+  pub others : (i : ℕ) (us : List ℕ) → slice_get lists i ≡ Some us → i ≢ seat → times u us ≡ 0
+  pub here : (us : List ℕ) → slice_get lists seat ≡ Some us → times u us ≡ times_in u lists
+  pub none : slice_get lists seat ≡ None → times_in u lists ≡ 0
+
+none_in : (u : ℕ) (lists : List (List ℕ)) → times_in u lists ≡ 0 → (i : ℕ) (us : List ℕ) → slice_get lists i ≡ Some us → times u us ≡ 0
+none_in u [] h i us e = cc
+none_in u (l ∷ ls) h zero us e = let same : l ≡ us = cc in subst (λ x. times u x ≡ 0) same (omega (arith, h))
+none_in u (l ∷ ls) h (suc i) us e = none_in u ls (omega (arith, h)) i us e
+
+first_others : (u : ℕ) (l : List ℕ) (ls : List (List ℕ)) → times_in u ls ≡ 0 → (i : ℕ) (us : List ℕ) → slice_get (l ∷ ls) i ≡ Some us → i ≢ 0 → times u us ≡ 0
+first_others u l ls h zero us e n = absurd (n refl)
+first_others u l ls h (suc i) us e n = none_in u ls h i us e
+
+first_seat : (u : ℕ) (l : List ℕ) (ls : List (List ℕ)) → times_in u ls ≡ 0 → IsSeat u (l ∷ ls)
+first_seat u l ls h = record {
+  seat = 0;
+  others = first_others u l ls h;
+  here = λ us e. let same : l ≡ us = cc in subst (λ x. times u x ≡ times u l + times_in u ls) same (omega (arith, h));
+  none = λ e. cc;
+}
+
+next_others : (u : ℕ) (l : List ℕ) (ls : List (List ℕ)) (s : IsSeat u ls) → times u l ≡ 0 → (i : ℕ) (us : List ℕ) → slice_get (l ∷ ls) i ≡ Some us → i ≢ suc s.seat → times u us ≡ 0
+next_others u l ls s h zero us e n = let same : l ≡ us = cc in subst (λ x. times u x ≡ 0) same h
+next_others u l ls s h (suc i) us e n = s.others i us e (λ same. n (ap suc same))
+
+next_seat : (u : ℕ) (l : List ℕ) (ls : List (List ℕ)) → times u l ≡ 0 → IsSeat u ls → IsSeat u (l ∷ ls)
+next_seat u l ls h s = record {
+  seat = suc s.seat;
+  others = next_others u l ls s h;
+  here = λ us e. let x = s.here us e in omega (arith, h, x);
+  none = λ e. let x = s.none e in omega (arith, h, x);
+}
+
+pub zero_or : (n : ℕ) → (n ≡ 0) ⊎ (0 < n)
+zero_or zero = inl refl
+zero_or (suc n) = inr (omega arith)
+
+pub seat : (u : ℕ) (lists : List (List ℕ)) → times_in u lists ≤ 1 → IsSeat u lists
+seat u [] h = record { seat = 0; others = λ i us e n. cc; here = λ us e. cc; none = λ e. refl }
+seat u (l ∷ ls) h = ⊎_elim
+    (λ e. next_seat u l ls e (seat u ls (omega (arith, h))))
+    (λ e. first_seat u l ls (omega (arith, h, e)))
+    (zero_or (times u l))

@@ -1,0 +1,110 @@
+-- Elements of lists at their positions.
+use Rattle.std.proofs.Common.{◌≡◌, ◌<◌, ◌≤◌, ℕ, zero, suc, ◌+◌, Bool, true, false, not, ◌||◌, List, [], ◌∷◌, map, take, Some, slice_get, refl, sym, ap, ◌∙◌, arith, if◌then◌else◌, ⊎_elim}
+use Rattle.std.specs.List.{list_any}
+use Rattle.std.proofs.lemmas.Bool.{true≢false, and_parts, or_cases, or_right}
+use Rattle.std.proofs.lemmas.Option.{same_Some, none-some}
+use Rattle.tk_plan_laws.proofs.Model.{count}
+use Rattle.tk_plan_laws.specs.Listening.{is_followed, precedes}
+
+-- an element that passes the test
+pub record Found {A : Type 0} (p : A → Bool) (xs : List A) : Type 0 where
+  pub position : ℕ
+  pub element : A
+  pub stands : slice_get xs position ≡ Some element
+  pub passes : p element ≡ true
+
+abbrev first : {A : Type 0} (p : A → Bool) (x : A) (xs : List A) → p x ≡ true → Found p (x ∷ xs)
+first p x xs h = record { position = 0; element = x; stands = refl; passes = h }
+
+abbrev next : {A : Type 0} (p : A → Bool) (x : A) (xs : List A) → Found p xs → Found p (x ∷ xs)
+next p x xs f = record { position = suc f.position; element = f.element; stands = f.stands; passes = f.passes }
+
+pub any_at : {A : Type 0} (p : A → Bool) (xs : List A) → list_any p xs ≡ true → Found p xs
+any_at p [] h = absurd (true≢false (sym h))
+any_at p (x ∷ xs) h = ⊎_elim {C = Found p (x ∷ xs)}
+    (λ (here : p x ≡ true). first p x xs here)
+    (λ (later : list_any p xs ≡ true). next p x xs (any_at p xs later))
+    (or_cases (p x) (list_any p xs) h)
+
+pub any_from : {A : Type 0} (p : A → Bool) (xs : List A) (i : ℕ) (x : A) → slice_get xs i ≡ Some x → p x ≡ true → list_any p xs ≡ true
+any_from p [] i x at h = absurd (none-some x at)
+any_from p (y ∷ ys) zero x at h = ap (λ b. b || list_any p ys) (ap p (same_Some y x at) ∙ h)
+any_from p (y ∷ ys) (suc i) x at h = ap (λ b. p y || b) (any_from p ys i x at h) ∙ or_right (p y) true refl
+
+-- ---- what comes earlier and later
+
+-- an element that passes the test, before position i
+pub record Earlier {A : Type 0} (p : A → Bool) (xs : List A) (i : ℕ) : Type 0 where
+  pub found : Found p xs
+  pub before : found.position < i
+
+-- an element that passes the test, after position i
+pub record Later {A : Type 0} (p : A → Bool) (xs : List A) (i : ℕ) : Type 0 where
+  pub found : Found p xs
+  pub after : i < found.position
+
+pub earlier : {A : Type 0} (p q : A → Bool) (xs : List A) (i : ℕ) (x : A) → precedes p q xs ≡ true → slice_get xs i ≡ Some x → q x ≡ true → Earlier p xs i
+earlier p q [] i x h at is = absurd (none-some x at)
+earlier p q (y ∷ ys) zero x h at is =
+    let here : q y ≡ true = ap q (same_Some y x at) ∙ is in
+    absurd (true≢false (sym (and_parts (not (q y)) (p y || precedes p q ys) h).0 ∙ ap not here))
+earlier p q (y ∷ ys) (suc i) x h at is = ⊎_elim {C = Earlier p (y ∷ ys) (suc i)}
+    (λ (here : p y ≡ true). record { found = first p y ys here; before = omega arith })
+    (λ (rest : precedes p q ys ≡ true).
+    let e = earlier p q ys i x rest at is in let lt = e.before in
+    record { found = next p y ys e.found; before = omega (arith, lt) })
+    (or_cases (p y) (precedes p q ys) (and_parts (not (q y)) (p y || precedes p q ys) h).1)
+
+follows : (b c : Bool) → (not b || c) ≡ true → b ≡ true → c ≡ true
+follows true c h is = h
+follows false c h is = absurd (true≢false (sym is))
+
+pub later : {A : Type 0} (p q : A → Bool) (xs : List A) (i : ℕ) (x : A) → is_followed p q xs ≡ true → slice_get xs i ≡ Some x → p x ≡ true → Later q xs i
+later p q [] i x h at is = absurd (none-some x at)
+later p q (y ∷ ys) zero x h at is =
+    let both = and_parts (not (p y) || list_any q ys) (is_followed p q ys) h in
+    let f = any_at q ys (follows (p y) (list_any q ys) both.0 (ap p (same_Some y x at) ∙ is)) in
+    record { found = next q y ys f; after = omega arith }
+later p q (y ∷ ys) (suc i) x h at is =
+    let both = and_parts (not (p y) || list_any q ys) (is_followed p q ys) h in
+    let l = later p q ys i x both.1 at is in let lt = l.after in
+    record { found = next q y ys l.found; after = omega (arith, lt) }
+
+-- ---- how many pass
+
+more : (b : Bool) (n m : ℕ) → m ≤ n → m ≤ (if b then 1 + n else n)
+more true n m h = omega (arith, h)
+more false n m h = h
+
+pub counted_once : {A : Type 0} (p : A → Bool) (xs : List A) (i : ℕ) (x : A) → slice_get xs i ≡ Some x → p x ≡ true → 1 ≤ count p xs
+counted_once p [] i x at h = absurd (none-some x at)
+counted_once p (y ∷ ys) zero x at h = let here : p y ≡ true = ap p (same_Some y x at) ∙ h in rw here (omega arith)
+counted_once p (y ∷ ys) (suc i) x at h = more (p y) (count p ys) 1 (counted_once p ys i x at h)
+
+pub counted_twice : {A : Type 0} (p : A → Bool) (xs : List A) (i j : ℕ) (x y : A) → i < j → slice_get xs i ≡ Some x → slice_get xs j ≡ Some y → p x ≡ true → p y ≡ true → 2 ≤ count p xs
+counted_twice p [] i j x y lt a b h g = absurd (none-some x a)
+counted_twice p (z ∷ zs) i zero x y lt a b h g = let no : ⊥ = omega (arith, lt) in absurd no
+counted_twice p (z ∷ zs) zero (suc j) x y lt a b h g =
+    let here : p z ≡ true = ap p (same_Some z x a) ∙ h in
+    let rest = counted_once p zs j y b g in
+    rw here (omega (arith, rest))
+counted_twice p (z ∷ zs) (suc i) (suc j) x y lt a b h g = more (p z) (count p zs) 2 (counted_twice p zs i j x y (omega (arith, lt)) a b h g)
+
+-- ---- first elements, and images
+
+pub in_taken : {A : Type 0} (n : ℕ) (xs : List A) (i : ℕ) (x : A) → slice_get (take n xs) i ≡ Some x → (i < n) × (slice_get xs i ≡ Some x)
+in_taken zero xs i x at = absurd (none-some x at)
+in_taken (suc n) [] i x at = absurd (none-some x at)
+in_taken (suc n) (y ∷ ys) zero x at = (omega arith, at)
+in_taken (suc n) (y ∷ ys) (suc i) x at = let r = in_taken n ys i x at in let lt = r.0 in (omega (arith, lt), r.1)
+
+pub taken_at : {A : Type 0} (n : ℕ) (xs : List A) (i : ℕ) (x : A) → i < n → slice_get xs i ≡ Some x → slice_get (take n xs) i ≡ Some x
+taken_at zero xs i x lt at = let no : ⊥ = omega (arith, lt) in absurd no
+taken_at (suc n) [] i x lt at = absurd (none-some x at)
+taken_at (suc n) (y ∷ ys) zero x lt at = at
+taken_at (suc n) (y ∷ ys) (suc i) x lt at = taken_at n ys i x (omega (arith, lt)) at
+
+pub of_map : {A B : Type 0} (g : A → B) (xs : List A) (i : ℕ) (y : B) → slice_get (map g xs) i ≡ Some y → (x : A) × (slice_get xs i ≡ Some x) × (g x ≡ y)
+of_map g [] i y at = absurd (none-some y at)
+of_map g (x ∷ xs) zero y at = (x, refl, same_Some (g x) y at)
+of_map g (x ∷ xs) (suc i) y at = of_map g xs i y at

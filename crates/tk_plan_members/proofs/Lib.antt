@@ -1,9 +1,0 @@
-pub mod Escapes
-pub mod Items
-pub mod Taking
-pub mod UnknownMembers
-pub mod Locking
-pub mod Passing
-pub mod Pairing
-pub mod Results
-pub mod Filing

@@ -1,0 +1,4 @@
+pub mod TableRows
+pub mod Values
+pub mod PlanFromNodes
+pub mod PlanLawSteps

@@ -1,5 +1,0 @@
-use Rattle.tk_plan_units.proofs.Cuts.{parts_below-moves}
-use Rattle.tk_plan_units.proofs.laws.loses_nothing.Goals as goal
-
-pub returns : goal.returns
-returns c = parts_below-moves

@@ -1,9 +1,0 @@
-use Rattle.std.proofs.Common.{ap, sym, ◌∙◌}
-use Rattle.tk_plan_units.specs.Trees.{forest}
-use Rattle.tk_plan_units.specs.Weights.{weights}
-use Rattle.tk_plan_units.proofs.Standing.{nodes_are}
-use Rattle.tk_plan_units.proofs.Moving.{below-length}
-use Rattle.tk_plan_units.proofs.plans.Plan.total_events.Goals as goal
-
-pub returns : goal.returns
-returns c = c.self.invariant.cut.total ∙ ap (λ ps. weights (forest ps)) (nodes_are _ _ c.self.view_is) ∙ sym (below-length 0 _)

@@ -1,6 +1,0 @@
-use Rattle.std.proofs.Common.{◌∙◌, sym}
-use Rattle.tk_plan_units.proofs.Moving.{is_leaf_when_empty}
-use Rattle.tk_plan_units.proofs.units.spines.is_leaf.Goals as goal
-
-pub returns : goal.returns
-returns c = c.is_empty.ensures ∙ sym (is_leaf_when_empty _)

@@ -1,5 +1,0 @@
-pub mod Trees
-pub mod Script
-pub mod Weights
-pub mod MaskAccess
-pub mod CuttingSteps
