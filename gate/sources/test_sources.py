@@ -25,7 +25,7 @@ LIMITS = Limits(
         *("crates/example_engine/src/by_hand/broken.rt new", "crates/example_engine/src/case_tests.rt case_engine"),
         "crates/example_engine/src/evens.rt even_numbers",
     ],
-    fewest_edits=230,
+    fewest_edits=105,
     fewest_tests=161,
 )
 
