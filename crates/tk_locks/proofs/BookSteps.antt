@@ -1,5 +1,5 @@
 -- Each step of a book keeps its rule.
-use Rattle.std.proofs.Common.{◌≡◌, ℕ, eqb, ◌+◌, ◌-◌, ◌*◌, ◌%◌, ◌^◌, ◌<◌, ◌≤◌, inl, inr, Option, Some, None, List, [], ◌∷◌, ◌++◌, length, get_or, set, replicate, sum_by, refl, sym, ap, ◌∙◌, zero-add, length-append, arith, subst}
+use Rattle.std.proofs.Common.{◌≡◌, ℕ, eqb, ◌+◌, ◌-◌, ◌*◌, ◌%◌, ◌^◌, ◌<◌, ◌≤◌, inl, inr, Option, Some, None, List, [], ◌∷◌, ◌++◌, length, get_or, set, replicate, sum_by, take, refl, sym, ap, ◌∙◌, zero-add, length-append, arith, subst}
 use mathlib.Core.Option as maybe
 use mathlib.Core.Option.{some-injective}
 use lib.ListN.{get_elem?}
@@ -13,11 +13,11 @@ use Rattle.atomic_table.proofs.Lists.{exchanged}
 use Rattle.tk_lanes.specs.Lanes.{lane_at, Admits}
 use Rattle.tk_locks.specs.NeedView.{NeedView}
 use Rattle.tk_locks.specs.Needs.{lane, word_of}
-use Rattle.tk_locks.specs.Holdings.{AreCompatible, held_lane, held_word}
+use Rattle.tk_locks.specs.Holdings.{AreCompatible, WereHeld, held_lane, held_word}
 use Rattle.tk_locks.specs.declared.rules.SeatNote.{SeatNote}
-use Rattle.tk_locks.specs.LockWord.{seat_note, holdings, HoldingsFitWord, WordWasLoaded, WasExchanged, WasReleased}
+use Rattle.tk_locks.specs.LockWord.{seat_note, holdings, HoldingsFitWord, HasTaken, WordWasLoaded, WasExchanged, WasReleased}
 use Rattle.tk_locks.proofs.LaneConflicts.{lanes_agree, sum_lane, word_lt, word_lane}
-use Rattle.tk_locks.proofs.ListSums.{flat_turn, flat_same, flat_part, length_turn, flat_lone}
+use Rattle.tk_locks.proofs.ListSums.{set_there, flat_get, flat_turn, flat_same, flat_part, length_turn, flat_lone}
 
 abbrev lane_sum : List SeatNote → ℕ → ℕ
 lane_sum views r = sum_by (λ h. held_lane h r) (holdings views)
@@ -47,6 +47,18 @@ read_more : (seats id : ℕ) (me : Me NeedView SeatNote) (s : State NeedView Sea
 read_more seats id me s seen kept at = let w = seat_note me.0.seats me.0.held seen in
     turned seats id me w s (get_or s.words 0 0) kept at refl (ap (λ (l : List ℕ). get_or l 0 0) kept.word ∙ sym (flat_same held_word held_of s.views id me.0 w at refl)) (same_lanes seats id me.0 w s kept at refl)
 
+-- what the seats hold, where no lane is above 15 and the word is its sum
+held_in : (views : List SeatNote) (id : ℕ) (v : SeatNote) (own : Option NeedView) (word : ℕ)
+    → get_elem? views id ≡ maybe.some v → v.held ≡ own ∷ []
+    → ((r : ℕ) → r < 16 → lane_sum views r ≤ 15) → word ≡ word_sum views → WereHeld own word
+held_in views id v own word at one lanes sum = record {
+  held = holdings views;
+  seat = length (holdings (take id views));
+  among = flat_get held_of views id v own at one;
+  compatible = lanes_agree (holdings views) lanes;
+  sum = sum;
+}
+
 sum_single : (f : Option NeedView → ℕ) (h : Option NeedView) (held : List (Option NeedView)) → held ≡ h ∷ [] → sum_by f held ≡ f h
 sum_single f h held one = ap (sum_by f) one ∙ zero-add (f h)
 
@@ -57,24 +69,49 @@ module _ (seats slots id : ℕ) (me : Me NeedView SeatNote) where
     keeps,
     tt,
     read_more seats id me s (me.0.seen ++ x ∷ []) kept at,
-    (refl, λ r lt. (let e = sum_lane (holdings s.views) kept.lanes r lt in let p = flat_part (λ h. held_lane h r) held_of s.views id me.0 at in let q = ap (λ (l : List ℕ). lane_at (get_or l 0 0) r) kept.word in omega arith)),
+    (
+      refl,
+      (λ r lt. let e = sum_lane (holdings s.views) kept.lanes r lt in let p = flat_part (λ h. held_lane h r) held_of s.views id me.0 at in let q = ap (λ (l : List ℕ). lane_at (get_or l 0 0) r) kept.word in omega arith),
+      λ own one. held_in s.views id me.0 own x at one kept.lanes
+          (ap (λ (l : List ℕ). get_or l 0 0) kept.word),
+    ),
   )
 
   pub takes : (n : NeedView) (old word : ℕ) → word ≡ word_of n → me.0.held ≡ None ∷ [] → Admits old word
       → Allows (HoldingsFitWord seats) slots id me 0 (λ x. either (eqb x old) (old + word) x) (WasExchanged (step slots 0 old (old + word) (maybe.some n)) me)
   takes n old word is empty room s kept _ at _ = let x : ℕ = get_or s.words 0 0 in let then = WasExchanged (step slots 0 old (old + word) (maybe.some n)) me in
       exchanged x old (old + word) (λ m. (w : SeatNote) × (a : Act NeedView) × Valid s.homes me.1 a × HoldingsFitWord seats (stepped s 0 m id me.1 w a) × then x (w, carried_after me.1 a))
-      (λ hit. let w = seat_note me.0.seats (Some n ∷ []) me.0.seen in (
+      (λ hit. let w = seat_note me.0.seats (Some n ∷ []) me.0.seen in
+      let views : List SeatNote = set s.views id w in
+      let q : old ≡ word_sum s.views = sym hit ∙ ap (λ (l : List ℕ). get_or l 0 0) kept.word in
+      let sum : old + word ≡ word_sum views = (
+      let e = flat_turn held_word held_of s.views id me.0 w at in
+      let z = sum_single held_word None me.0.held empty in
+      let y = sum_single held_word (Some n) (Some n ∷ []) refl in omega arith) in
+      let lanes : (r : ℕ) → r < 16 → lane_sum views r ≤ 15 = λ r lt. (
+      let e = flat_turn (λ h. held_lane h r) held_of s.views id me.0 w at in
+      let z = sum_single (λ h. held_lane h r) None me.0.held empty in
+      let y = sum_single (λ h. held_lane h r) (Some n) (Some n ∷ []) refl in
+      let a = room r lt in
+      let l : lane_at word r ≡ lane n r = ap (λ (m : ℕ). lane_at m r) is ∙ word_lane n r lt in
+      let k = sum_lane (holdings s.views) kept.lanes r lt in
+      let p : lane_at old r ≡ lane_at (word_sum s.views) r = ap (λ (m : ℕ). lane_at m r) q in
+      omega arith) in (
         w,
         keeps,
         tt,
-        turned seats id me w s (old + word) kept at (sym (ap (λ (l : List (Option NeedView)). length l) empty))
-            (let e = flat_turn held_word held_of s.views id me.0 w at in let z = sum_single held_word None me.0.held empty in let y = sum_single held_word (Some n) (Some n ∷ []) refl in
-            let q : x ≡ word_sum s.views = ap (λ (l : List ℕ). get_or l 0 0) kept.word in omega arith)
-            (λ r lt. let e = flat_turn (λ h. held_lane h r) held_of s.views id me.0 w at in let z = sum_single (λ h. held_lane h r) None me.0.held empty in let y = sum_single (λ h. held_lane h r) (Some n) (Some n ∷ []) refl in
-            let a = room r lt in let l : lane_at word r ≡ lane n r = ap (λ (m : ℕ). lane_at m r) is ∙ word_lane n r lt in let k = sum_lane (holdings s.views) kept.lanes r lt in
-            let q : old ≡ word_sum s.views = sym hit ∙ ap (λ (l : List ℕ). get_or l 0 0) kept.word in let p : lane_at old r ≡ lane_at (word_sum s.views) r = ap (λ (m : ℕ). lane_at m r) q in omega arith),
-        inl (hit, refl),
+        turned seats id me w s (old + word) kept at
+            (sym (ap (λ (l : List (Option NeedView)). length l) empty)) sum lanes,
+        inl (
+          hit,
+          record {
+            after = refl;
+            together = λ m said none.
+                subst (λ (k : NeedView). WereHeld (Some k) (old + word)) (some-injective n m said)
+                (held_in views id w (Some n) (old + word)
+                (set_there s.views id me.0 w at) refl lanes sum);
+          },
+        ),
       ))
       (λ miss. (seat_note me.0.seats me.0.held (me.0.seen ++ x ∷ []), keeps, tt, read_more seats id me s (me.0.seen ++ x ∷ []) kept at, inr (miss, refl)))
 

@@ -3,11 +3,12 @@ use Rattle.std.proofs.Common.{◌≡◌, ◌≢◌, ℕ, ⊎_elim, Option, Some,
 use mathlib.Core.Logic.{dite}
 use native.Mathlib.Decide.{ℕ_discrete, dec_lt}
 use Rattle.std.proofs.lemmas.Option.{slice_get_within, get_or_from_slice_get}
-use Rattle.atomic_table.specs.Table.{Me, carried_after}
+use mathlib.Core.Option as maybe
+use Rattle.atomic_table.specs.Table.{Me, carried_after, step}
 use Rattle.tk_locks.specs.NeedView.{NeedView}
 use Rattle.tk_locks.specs.Holdings.{IsCompatible, AreCompatible}
 use Rattle.tk_locks.specs.declared.rules.SeatNote.{SeatNote}
-use Rattle.tk_locks.specs.LockWord.{seat_note, holdings, HoldingsFitWord, WordWasLoaded, WasExchanged, WasReleased}
+use Rattle.tk_locks.specs.LockWord.{seat_note, holdings, HoldingsFitWord, HasTaken, WordWasLoaded, WasExchanged, WasReleased}
 use Rattle.tk_locks.specs.Steps.{IsSumOfHoldings, ExchangeIsGrant, FailureIsNone, LoadIsNone, SubtractionIsRelease}
 use Rattle.tk_locks.proofs.LaneConflicts.{agree_sym}
 use Rattle.tk_locks.proofs.ListSums.{flat_set, flat_get, flat_still}
@@ -31,7 +32,7 @@ state seats s kept = (kept.word, kept.lanes, kept.compatible)
 
 pub grant : ExchangeIsGrant HoldingsFitWord WasExchanged
 grant t n old new begun empty kept stated = let me = t.before in let w = t.note in let s = t.state in let
-    held : w.held ≡ Some n ∷ [] = ⊎_elim (λ (e : (old ≡ old) × ((w, carried_after me.1 t.act) ≡ (seat_note me.0.seats (Some n ∷ []) me.0.seen, me.1))). ap (λ (m : Me NeedView SeatNote). m.0.held) e.1)
+    held : w.held ≡ Some n ∷ [] = ⊎_elim (λ (e : (old ≡ old) × HasTaken (step t.slots 0 old new (maybe.some n)) me (w, carried_after me.1 t.act)). ap (λ (m : Me NeedView SeatNote). m.0.held) e.1.after)
     (λ (e : (old ≢ old) × ((w, carried_after me.1 t.act) ≡ (seat_note me.0.seats me.0.held (me.0.seen ++ old ∷ []), me.1))). absurd (e.0 refl)) stated in let
     there = flat_get held_of s.views t.seat me.0 None begun.note empty in let
     same = flat_set held_of s.views t.seat me.0 w None (Some n) begun.note empty held in
@@ -42,7 +43,7 @@ grant t n old new begun empty kept stated = let me = t.before in let w = t.note 
 
 pub failure : FailureIsNone HoldingsFitWord WasExchanged
 failure t n old new x begun other stated = let me = t.before in flat_still held_of t.state.views t.seat me.0 t.note begun.note
-    (⊎_elim (λ (e : (x ≡ old) × ((t.note, carried_after me.1 t.act) ≡ (seat_note me.0.seats (Some n ∷ []) me.0.seen, me.1))). absurd (other e.0))
+    (⊎_elim (λ (e : (x ≡ old) × HasTaken (step t.slots 0 old new (maybe.some n)) me (t.note, carried_after me.1 t.act)). absurd (other e.0))
     (λ (e : (x ≢ old) × ((t.note, carried_after me.1 t.act) ≡ (seat_note me.0.seats me.0.held (me.0.seen ++ x ∷ []), me.1))). ap (λ (m : Me NeedView SeatNote). m.0.held) e.1) stated)
 
 pub load : LoadIsNone HoldingsFitWord WordWasLoaded

@@ -2,7 +2,7 @@
 ghost use Rattle.std.specs.Prelude.{◌≡◌, ℕ, ◌<◌, ◌≤◌, ◌⊎◌, ◌↔◌, [], ◌∷◌, ◌++◌, length, map, replicate, sum_by, All, IfOk, IfErr, IsSome, Some};
 ghost use Rattle.tk_lanes.specs.Lanes.{lane_at};
 ghost use Rattle.tk_locks.specs.Needs.{word_of};
-ghost use Rattle.tk_locks.specs.Holdings.{AreCompatible, held_lane, held_word};
+ghost use Rattle.tk_locks.specs.Holdings.{AreCompatible, WereHeld, held_lane, held_word};
 ghost use Rattle.tk_locks.specs.Books.{book_view, empty};
 ghost use Rattle.tk_locks.specs.FaultTexts.{book_fault_text, busy_text};
 ghost use Rattle.tk_locks.specs.LockWord.{seat_note};
@@ -165,7 +165,7 @@ impl Book {
     /// Takes the need, where the word that is read admits it and the exchange finds the same word.
     ///
     /// `seat` must be a seat of this book that holds nothing. It takes one load and at most one
-    /// exchange.
+    /// exchange. What all seats hold after the exchange doesn't conflict (`together`).
     ///
     /// # Errors
     /// `Held` or `Moved`, with the words that were read. The seat then holds nothing.
@@ -175,6 +175,7 @@ impl Book {
         ensures book { seat.new.book ≡ seat.old.book }
         ensures held { IfOk result (λ _. seat.new.holds ≡ Some need) }
         ensures free { IfOk result (λ _. WasFree seat.old.read seat.new.read (word_of need)) }
+        ensures together { IfOk result (λ _. (word : ℕ) × WereHeld (Some need) word) }
         ensures empty { IfErr result (λ _. seat.new.holds ≡ None) }
         ensures busy { IfErr result (WasBusy seat.old.read seat.new.read (word_of need)) }
     {
@@ -205,6 +206,7 @@ impl Book {
         ensures book { seat.new.book ≡ seat.old.book }
         ensures held { seat.new.holds ≡ Some need }
         ensures free { WasFreeAtLast seat.old.read seat.new.read (word_of need) }
+        ensures together { (word : ℕ) × WereHeld (Some need) word }
     {
         let mut delay = RetryDelay::new();
         for _ in rt.forever() {
@@ -233,13 +235,15 @@ impl Book {
         seat.held = None;
     }
 
-    /// Reads the word. Each of its lanes is at least what the seat's own need adds to it.
+    /// Reads the word: the sum of the words of what all seats held at that moment, of which no two
+    /// needs conflicted.
     pub fn look(&self, seat: &mut BookSeat) -> u64
         requires of_this { seat.old.book ≡ self.now }
         ensures book { seat.new.book ≡ seat.old.book }
         ensures holds { seat.new.holds ≡ seat.old.holds }
         ensures read { seat.new.read ≡ seat.old.read ++ result ∷ [] }
         ensures own { (r : ℕ) → r < 16 → held_lane seat.old.holds r ≤ lane_at result r }
+        ensures together { WereHeld seat.old.holds result }
     {
         self.table.shared.load::<LoadStep>(&mut seat.seat, 0)
     }

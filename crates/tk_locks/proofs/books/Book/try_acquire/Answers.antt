@@ -1,4 +1,4 @@
-use Rattle.std.proofs.Common.{◌∙◌, ◌≡◌, ◌+◌, ◌<◌, ◌^◌, ◌∷◌, [], Option, None, sym, ap, refl, arith}
+use Rattle.std.proofs.Common.{◌∙◌, ◌≡◌, ◌+◌, ◌<◌, ◌^◌, ◌∷◌, [], Option, None, ⊎_elim, sym, ap, refl, arith}
 use Rattle.atomic_table.specs.Table.{Me}
 use Rattle.tk_locks.specs.NeedView.{NeedView}
 use Rattle.tk_locks.specs.Books.{BookView, BookSeatView}
@@ -21,3 +21,15 @@ compare_exchange_with-found-requires c = let same = ap (λ (z : BookSeatView). z
       omega arith,
       takes _ _ _ c.load-seen.new.seat.me c.args.need c.load-seen.result c.word-word.result c.word-word.ensures none (c.if-not-admits.ensures.0 refl),
     )
+
+pub returns-then-found-seen-clause-together : goal.returns-then-found-seen-clause-together
+returns-then-found-seen-clause-together c =
+    let after = c.load-seen.ensures.2.0 in
+    let none : c.load-seen.new.seat.me.0.held ≡ None ∷ [] =
+    ap (λ (m : Me NeedView SeatNote). m.0.held) after ∙ c.seat.invariant.one
+    ∙ ap (λ (h : Option NeedView). h ∷ [])
+    (ap (λ (z : BookSeatView). z.holds) c.seat.view_is ∙ c.requires.empty) in
+    ⊎_elim
+    (λ e. (_, e.1.together c.args.need refl none))
+    (λ e. absurd (e.0 c.if-found-seen.true))
+    c.compare_exchange_with-found.ensures.2
