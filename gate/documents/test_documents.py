@@ -8,21 +8,11 @@ from commands import examples_of
 from documents import documents_of
 from fixtures import PROGRAM, TOP, WithProgram, needs, parameterized, run
 from quotes import quotes_of
-from rules import Limits, rules_of
+from rules import rules_of
 from tree import Tree
 
-LIMITS = Limits(
-    documents=(
-        "README.md",
-        *(f"docs/{it}.md" for it in "ARCHITECTURE DECISIONS ENGINES FORMATS JUNIT PROVED SPEED TESTING".split()),
-    ),
-    most_words=15_000,
-    most_readme_bytes=14_336,
-    most_crate_lines=80,
-    fewest_crate_readmes=35,
-    heads=("tk_lanes", "tk_ids", "tk_events", "tk_record_text", "tk_query", "tk_locks", "tk_plan_reading", "tk_queue", "tk_engine_scripted", "tk_plan_runs", "testkit"),
-    phrases=("want of memory", "refused growth", "so many", "passes on", "beyond the surface", "who wants to look"),
-)
+LISTED = ["README.md", *(f"docs/{it}.md" for it in "ARCHITECTURE DECISIONS ENGINES FORMATS JUNIT PROVED SPEED TESTING".split())]
+"""The documents besides the crates' READMEs."""
 
 TREE = Tree(TOP)
 DOCUMENTS = documents_of(TOP)
@@ -32,7 +22,7 @@ EXAMPLES = [example for document in DOCUMENTS for example in examples_of(documen
 class Documents(unittest.TestCase):
     maxDiff = None
 
-    @parameterized(lambda: rules_of(TREE, DOCUMENTS, LIMITS).items(), name=itemgetter(0))
+    @parameterized(lambda: rules_of(TREE, DOCUMENTS, LISTED).items(), name=itemgetter(0))
     def test_rules(self, rule):
         self.assertEqual(rule[1](), [])
 

@@ -1,4 +1,4 @@
-"""Holds the checks of commands, names, quotes, figures and sizes against small trees that are right, or wrong in one way."""
+"""Holds the checks of commands, names, quotes and figures against small trees that are right, or wrong in one way."""
 
 import unittest
 from operator import itemgetter
@@ -7,7 +7,7 @@ from commands import examples_of
 from documents import documents_of
 from fixtures import folder, parameterized, write
 from quotes import quotes_of
-from rules import Limits, rules_of
+from rules import rules_of
 from tree import Tree
 
 README = """# Small
@@ -42,7 +42,7 @@ SPEED = """# Speed
 | and in no more memory | 0.9 times |
 """
 HEADLINE = "pub record Headline : Type 0 where\n  -- Each first bit\n  -- is low.\n  pub first_is_low : A\n  -- No bit's first.\n  pub no_bits_first :\n      B\n"
-USE = "# Use\n\nAlso many; so manyfold: `all the words of it`.\n\n    $ cat tools/list\n    first\n    ..\n    fourth\n"
+USE = "# Use\n\n`all the words of it`.\n\n    $ cat tools/list\n    first\n    ..\n    fourth\n"
 CODE = "crates/high/src/lib.rt"
 LOW = f"# low\n\nFrom {CODE}:\n\n```rust\nif at < first_bits {{\n    append(at)\n}}\n```\n"
 HIGH = "# high\n\nFrom `crates/low/specs/Bits.antt`, shortened by nothing:\n\n    abbrev pub first_bits : ℕ\n    first_bits = 1\n"
@@ -50,7 +50,7 @@ TREE = {
     "README.md": README,
     "docs/USE.md": USE,
     "docs/SPEED.md": SPEED,
-    "crates.txt": "low:\nhigh: low  # the head\ntop staticlib: high\n",
+    "crates.txt": "low:\nhigh: low  # a comment\ntop staticlib: high\n",
     "crates/low/README.md": LOW,
     "crates/high/README.md": HIGH,
     "crates/top/README.md": "# top\n\n`Bits`, `append`\n",
@@ -65,8 +65,7 @@ TREE = {
     "crates/unlisted/src/lib.rt": "if at < first_bits {\n    append(at)\n}\n",
 }
 PROGRAM = "#!/bin/sh\nprintf 'one\\ntwo\\nthree\\n'\n"
-WORDS = sum(len(text.split()) for path, text in TREE.items() if path.endswith(".md"))
-LIMITS = Limits(("README.md", "docs/SPEED.md", "docs/USE.md"), WORDS + 40, len(README.encode()) + 80, 12, 3, ("low", "high"), ("so many",))
+LISTED = ["README.md", "docs/SPEED.md", "docs/USE.md"]
 
 
 def changed(path, old, new):
@@ -85,6 +84,7 @@ RIGHT = [
     ("a word with the program's name in it", changed("README.md", "$PROGRAM three | head -n 1\n    one\n", "echo at/./testkit.old\n    at/./testkit.old\n")),
     ("a name of a crate above that is named", more("crates/high/README.md", "\n`above_name` of `top`\n")),
     ("a command of a script that is no path", changed("README.md", "crates/low/src/lib.rt", "tools/run first_bits")),
+    ("a crate of tests without a README", more("crates.txt", "test_low: low\n")),
     ("a quote with blanks at its ends", changed("crates/low/README.md", "{\n", "{  \n")),
 ]
 WRONG = [
@@ -95,7 +95,7 @@ WRONG = [
     ("a line on standard error", "it prints", changed("README.md", "head -n 1", "head -n 1; echo two >&2")),
     ("a document is left out", "docs/USE.md is missing", {"docs/USE.md": None}),
     ("a document of no list", "docs/MORE.md is in no list", {"docs/MORE.md": "# More\n"}),
-    ("a crate without a README", "1 crates have no README, of 3: crates/top", {"crates/top/README.md": None}),
+    ("a crate without a README", "crates/top/README.md is missing", {"crates/top/README.md": None}),
     ("a name that isn't there", "README.md:3: there is no last_bits", changed("README.md", "first_bits", "last_bits")),
     ("a name of a comment", "there is no no_name", changed("README.md", "first_bits", "no_name")),
     ("a name among words", "there is no lastBits", changed("README.md", "`first_bits`", "`all the lastBits of it`")),
@@ -112,13 +112,8 @@ WRONG = [
     ("a quote of no crate", "is no file of a crate", changed("crates/low/README.md", "crates/high", "crates/unlisted")),
     ("no block after its line", "low/README.md:3: no block of code follows", {**changed("crates/low/README.md", "```rust", "words\n\n```")}),
     ("code of nobody", "low/README.md:11: no line 'From crates/..:'", more("crates/low/README.md", "\n```rust\nappend(at)\n```")),
-    ("a head that quotes nobody", "crates/high/README.md quotes no caller", {"crates/high/README.md": "# high\n"}),
     ("a backquote alone", "docs/USE.md:9: a backquote has no second one", more("docs/USE.md", "`first of all\n")),
     ("a fence without an end", "README.md: a fence has no end", changed("README.md", "`\n```\n", "`\n")),
-    ("a README of a line too many", "has 13 lines, and may have 12", more("crates/top/README.md", "line\n" * 10)),
-    ("a README.md of too many bytes", "README.md has", more("README.md", "é" * 40 + "\n")),
-    ("too many words", "words together, and may have", more("docs/USE.md", "| " * 41 + "\n")),
-    ("a phrase over two lines", "docs/USE.md:9: 'so many'", more("docs/USE.md", "There are So\nmany.\n")),
 ]
 
 
@@ -132,7 +127,7 @@ class Rules(unittest.TestCase):
             if text is not None:
                 write(f"{top}/{path}", text, 0o755)
         tree, documents = Tree(top), documents_of(top)
-        found = [fault for rule in rules_of(tree, documents, LIMITS).values() for fault in rule()]
+        found = [fault for rule in rules_of(tree, documents, LISTED).values() for fault in rule()]
         for document in documents:
             found += [f"{place}: {fault}" for place, fault in quotes_of(tree, document).items() if fault]
             examples = [(it, it.fault(top, f"{top}/program")) for it in examples_of(document)]
