@@ -1,5 +1,6 @@
-"""The rules for documents: which there are, which names they use, where their figures stand, and what the headline says."""
+"""The rules for documents: which there are, which names and files they point at, where their figures stand, and what the headline says."""
 
+import os
 import re
 from typing import Callable, Dict, List, Sequence, Set, Tuple
 
@@ -22,6 +23,7 @@ def rules_of(tree: Tree, documents: Sequence[Document], listed: Sequence[str]) -
     return {
         "each document is there, and in the list": lambda: missing_faults(tree, documents, listed),
         "each name in backquotes is there": lambda: name_faults(tree, documents),
+        "each picture is there": lambda: [fault for it in documents for fault in picture_faults(tree, it)],
         "each figure of README.md stands in docs/SPEED.md": lambda: figure_faults(documents),
         "the headline of README.md is that of the theorem": lambda: headline_faults(tree),
         "each backquote and each fence has an end": lambda: [fault for it in documents for fault in form_faults(it)],
@@ -34,6 +36,13 @@ def missing_faults(tree: Tree, documents: Sequence[Document], listed: Sequence[s
     wanted = [*listed, *(path for crate, path in readmes.items() if not crate.startswith("test_"))]
     faults = [f"{path} is missing" for path in wanted if path not in found]
     return faults + [f"{path} is in no list of documents" for path in found if path not in [*listed, *readmes.values()]]
+
+
+def picture_faults(tree: Tree, document: Document) -> List[str]:
+    """Pictures, and other files in round brackets, that are no files beside the document or below it."""
+    targets = [(number, path) for number, line in document.prose() for path in re.findall(r"\]\(([^)]+)\)", line)]
+    folder = os.path.dirname(document.path)
+    return [f"{document.path}:{number}: there is no {path}" for number, path in targets if os.path.join(folder, path) not in tree.files]
 
 
 def form_faults(document: Document) -> List[str]:

@@ -42,7 +42,7 @@ SPEED = """# Speed
 | and in no more memory | 0.9 times |
 """
 HEADLINE = "pub record Headline : Type 0 where\n  -- Each first bit\n  -- is low.\n  pub first_is_low : A\n  -- No bit's first.\n  pub no_bits_first :\n      B\n"
-USE = "# Use\n\n`all the words of it`.\n\n    $ cat tools/list\n    first\n    ..\n    fourth\n"
+USE = "# Use\n\n![What it does](use.svg)\n\n`all the words of it`.\n\n    $ cat tools/list\n    first\n    ..\n    fourth\n"
 CODE = "crates/high/src/lib.rt"
 LOW = f"# low\n\nFrom {CODE}:\n\n```rust\nif at < first_bits {{\n    append(at)\n}}\n```\n"
 HIGH = "# high\n\nFrom `crates/low/specs/Bits.antt`, shortened by nothing:\n\n    abbrev pub first_bits : ℕ\n    first_bits = 1\n"
@@ -60,6 +60,7 @@ TREE = {
     "crates/top/src/lib.rt": "fn above_name() {}\n",
     "gate/documents/other_names.txt": "# names of others\nJUnitName Assertion\n",
     "crates/testkit_headline/specs/Headline.antt": HEADLINE,
+    "docs/use.svg": "<svg/>",
     "tools/list": "first\nsecond\nthird\nfourth\n",
     "tools/run": "run()\n",
     "crates/unlisted/src/lib.rt": "if at < first_bits {\n    append(at)\n}\n",
@@ -101,6 +102,7 @@ WRONG = [
     ("a name among words", "there is no lastBits", changed("README.md", "`first_bits`", "`all the lastBits of it`")),
     ("a file that isn't there", "there is no crates/low/src/main.rt", changed("README.md", "src/lib.rt", "src/main.rt")),
     ("a name of a crate above", "crates/high/README.md:8: there is no above_name", more("crates/high/README.md", "\n`above_name` of topmost things\n")),
+    ("a picture that isn't there", "docs/USE.md:3: there is no use.svg", {"docs/use.svg": None}),
     ("a needless exception", "no document needs Needless", more("gate/documents/other_names.txt", "Needless\n")),
     ("a missing exception", "there is no Assertion", changed("gate/documents/other_names.txt", " Assertion", "")),
     ("a figure that isn't there", "docs/SPEED.md has no 1.7 of ask first", changed("README.md", "1.5", "1.7")),
@@ -112,7 +114,7 @@ WRONG = [
     ("a quote of no crate", "is no file of a crate", changed("crates/low/README.md", "crates/high", "crates/unlisted")),
     ("no block after its line", "low/README.md:3: no block of code follows", {**changed("crates/low/README.md", "```rust", "words\n\n```")}),
     ("code of nobody", "low/README.md:11: no line 'From crates/..:'", more("crates/low/README.md", "\n```rust\nappend(at)\n```")),
-    ("a backquote alone", "docs/USE.md:9: a backquote has no second one", more("docs/USE.md", "`first of all\n")),
+    ("a backquote alone", "docs/USE.md:11: a backquote has no second one", more("docs/USE.md", "`first of all\n")),
     ("a fence without an end", "README.md: a fence has no end", changed("README.md", "`\n```\n", "`\n")),
 ]
 
