@@ -17,7 +17,7 @@ use Rattle.tk_queue_session.specs.declared.close_faults.CloseReason.TheVariants.
 use Rattle.tk_queue_session.specs.Senders.{SenderView as Sent}
 use Rattle.tk_queue_session.specs.Receivers.{ReceiverView, is_marked}
 use Rattle.tk_queue_session.specs.Tokens.{tokens_of, sent_by}
-use Rattle.tk_queue_session.specs.Closing.{IsCloseFault}
+use Rattle.tk_queue_session.specs.Closing.{ClosedView, IsCloseFault, sent_in}
 use Rattle.tk_engine_runs.specs.Run.{IsShared}
 use Rattle.tk_engine_execute.specs.declared.engines.UnitFault.{UnitFault}
 use Rattle.tk_engine_execute.specs.declared.workers.WorkerEnd.{WorkerEnd}
@@ -190,10 +190,14 @@ module _ (units : RunUnits) (many workers : ℕ) (os : List WorkerEnd) (ts : Lis
       first_of [] some = absurd (omega arith)
       first_of (x ∷ xs) some = (x, refl)
 
--- the numbers of a closed session, as `close` gives them
-pub tallied : (n : ℕ) (closed : List ℕ) (es : List Entry) (ls : ℕ → List Event) → Mix n es ls → ((w : ℕ) → IsWorkerOf n w → slice_index closed w ≡ length (ls w))
-    → ((w : ℕ) → ¬ IsWorkerOf n w → slice_index closed w ≡ 0) → IsTallied n closed es
-tallied n closed es ls mix each others = record {
+-- what a closed session knows, as `close` gives it
+pub tallied :
+    (n : ℕ) (closed : ClosedView) (es : List Entry) (ls : ℕ → List Event) → Mix n es ls
+    → ((w : ℕ) → sent_in closed w ≡ ls w)
+    → ((w : ℕ) → IsWorkerOf n w → slice_index closed.emitted w ≡ length (ls w))
+    → ((w : ℕ) → ¬ IsWorkerOf n w → slice_index closed.emitted w ≡ 0) → IsTallied n closed es
+tallied n closed es ls mix sent each others = record {
+  sent = λ w own. mix.each w own ∙ sym (sent w);
   each = λ w own. each w own ∙ ap (λ l. length l) (sym (mix.each w own));
   others = others;
 }
@@ -228,8 +232,14 @@ none_failed [] ts ss h = tt
 none_failed (o ∷ os) ts ss h = (h.0, none_failed os h.1 h.2 h.5)
 
 -- what a worker has in a run, it has in the middle
-pub tallied_whole : (n : ℕ) (numbers : List ℕ) (before after : List Event) (mid whole : List Entry) → whole ≡ entries_by 0 before ++ mid ++ entries_by 0 after → IsTallied n numbers mid → IsTallied n numbers whole
-tallied_whole n numbers before after mid whole is tally = record {
-  each = λ w own. tally.each w own ∙ ap (λ l. length l) (sym (ap (of_worker w) is ∙ in_the_middle w before after mid own.0));
-  others = tally.others;
-}
+pub tallied_whole :
+    (n : ℕ) (closed : ClosedView) (before after : List Event) (mid whole : List Entry)
+    → whole ≡ entries_by 0 before ++ mid ++ entries_by 0 after
+    → IsTallied n closed mid → IsTallied n closed whole
+tallied_whole n closed before after mid whole is tally =
+    let same : (w : ℕ) → IsWorkerOf n w → of_worker w whole ≡ of_worker w mid =
+    λ w own. ap (of_worker w) is ∙ in_the_middle w before after mid own.0 in record {
+      sent = λ w own. same w own ∙ tally.sent w own;
+      each = λ w own. tally.each w own ∙ ap (λ l. length l) (sym (same w own));
+      others = tally.others;
+    }

@@ -81,7 +81,7 @@ pub fn run_tests<R: Threads + Wait + Sync, T: Tests + Sync>(
     ensures nesting { IfOk result (λ r. UnitsNest r.recorded) }
     ensures trees { IfOk result (λ r.
         UnitsRanTrees engine.now.shape.plan (T.may_run engine.now.tests) r.recorded) }
-    ensures tally { IfOk result (λ r. IsTallied workers r.closed.emitted r.recorded.entries) }
+    ensures tally { IfOk result (λ r. IsTallied workers r.closed r.recorded.entries) }
     ensures of_capacity { IfOk result (λ r. capacity_of r.closed.session ≡ capacity) }
     ensures workers { (result ≡ Err RunFault.Workers) ↔ ((workers ≡ 0) ⊎ (MAX_WORKERS < workers)) }
     ensures capacity { (result ≡ Err RunFault.Capacity)

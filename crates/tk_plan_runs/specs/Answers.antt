@@ -78,7 +78,7 @@ pub record IsRunOfPlan (bytes : List ℕ) (workers : ℕ) (run : PlanRun) : Type
   pub plan : Answered (plan_in bytes) (Ok run.engine)
   pub may_work : MayWork workers
   pub is_run : IsRunOf run.engine.nodes run.engine.table workers run.results.recorded
-  pub tally : IsTallied workers run.results.closed.emitted run.results.recorded.entries
+  pub tally : IsTallied workers run.results.closed run.results.recorded.entries
   pub of_capacity : capacity_of run.results.closed.session ≡ DEFAULT_CAPACITY
   pub report : OfPlan bytes (λ text. report_of_record run.results.recorded ≡ text)
   pub keeps : KeepsLifecycle run.results.recorded

@@ -9,7 +9,9 @@ use Rattle.tk_queue_core.specs.Limits.{most_workers, worker_slots}
 use Rattle.tk_queue_core.specs.Core.{Core, IsCore, worker_of, items_of, entry, entries, script}
 use Rattle.tk_queue_session.specs.SessionRule.{Stands, Concludes}
 use Rattle.tk_queue_session.specs.PassViews.{pass_of_receiver}
-use Rattle.tk_queue_session.specs.Closing.{Least}
+use Rattle.tk_queue_session.specs.Closing.{Least, list_of, lists_of}
+use Rattle.tk_queue_session.specs.declared.session_rules.SenderPass.{SenderPass}
+use Rattle.tk_queue_session.specs.declared.session_rules.PassView.{PassView}
 use Rattle.tk_queue_session.specs.Senders.{SenderView}
 use Rattle.tk_queue_session.specs.Tokens.{sent_by, tokens_of}
 use Rattle.tk_queue_session.specs.steps.Tokens.{pass_of_token}
@@ -132,3 +134,20 @@ mixes statics n taken tokens items once drained concludes = record {
 pub if_none_from : {A : Type 0} (o : Option A) (P : Type 0) → P → IfNone o P
 if_none_from None P p = p
 if_none_from (Some x) P p = tt
+
+-- the lists of the tokens are what their workers sent
+lists_of_tokens :
+    (w : ℕ) (ts : List SenderView)
+    → list_of (map (λ (s : SenderPass). (s.worker, s.sent)) (map pass_of_token ts)) w ≡ sent_by ts w
+lists_of_tokens w [] = refl
+lists_of_tokens w (t ∷ ts) =
+    ap (λ (l : List Event). if t.worker == w then t.sent else l) (lists_of_tokens w ts)
+
+-- where a pass took in these tokens, its lists are what their workers sent
+pub sent_by_tokens :
+    (v : PassView) (ts us : List SenderView) (statics workers : ℕ) (taken : List Item)
+    → v ≡ pass_of_receiver statics workers taken (map pass_of_token ts) → ts ≡ us
+    → (w : ℕ) → list_of (lists_of v) w ≡ sent_by us w
+sent_by_tokens v ts us statics workers taken known all w =
+    ap (λ (p : PassView). list_of (lists_of p) w) known ∙ lists_of_tokens w ts
+    ∙ ap (λ (l : List SenderView). sent_by l w) all

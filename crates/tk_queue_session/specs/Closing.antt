@@ -1,6 +1,7 @@
 -- When a session closes, what is known then, and the first reason why it does not.
-use Rattle.std.specs.Prelude.{◌≡◌, ℕ, ◌<◌, true, false, List}
+use Rattle.std.specs.Prelude.{◌≡◌, ℕ, ◌<◌, ◌==◌, true, false, if◌then◌else◌, List, [], ◌∷◌, map}
 use Rattle.atomic_table.specs.Seated.{TableId}
+use Rattle.tk_events.specs.declared.events.Event.{Event}
 use Rattle.tk_record.specs.Mixing.{IsWorkerOf}
 use Rattle.tk_queue_session.specs.declared.close_faults.CloseReason.{CloseReason}
 use Rattle.tk_queue_session.specs.declared.close_faults.CloseReason.TheVariants.{
@@ -8,15 +9,33 @@ use Rattle.tk_queue_session.specs.declared.close_faults.CloseReason.TheVariants.
   Twice,
   NotDrained,
 }
+use Rattle.tk_queue_session.specs.declared.session_rules.PassView.{PassView}
+use Rattle.tk_queue_session.specs.declared.session_rules.PassView.TheVariants.{Takes}
 use Rattle.tk_queue_session.specs.Senders.{SenderView}
 use Rattle.tk_queue_session.specs.Receivers.{ReceiverView, is_marked}
 use Rattle.tk_queue_session.specs.Tokens.{tokens_of, sent_by}
 use Rattle.tk_queue_core.specs.Core.{items_of, script}
 
--- a session that was closed, and how many events each worker emitted, by the workers' numbers
+-- A session that was closed: what each token's worker sent, beside the worker's number, and how many
+-- events that were, by the workers' numbers.
 pub record ClosedView : Type 0 where
   pub session : TableId
+  pub lists : List (ℕ × List Event)
   pub emitted : List ℕ
+
+-- the list beside the worker's number; nothing where it has none
+abbrev pub list_of : List (ℕ × List Event) → ℕ → List Event
+list_of [] w = []
+list_of (x ∷ xs) w = if x.0 == w then x.1 else list_of xs w
+
+-- what worker w of the session sent, in its order
+abbrev pub sent_in : ClosedView → ℕ → List Event
+sent_in closed w = list_of closed.lists w
+
+-- what the workers sent whose tokens the receiver's pass took in
+abbrev pub lists_of : PassView → List (ℕ × List Event)
+lists_of (Takes r) = map (λ s. (s.worker, s.sent)) r.tokens
+lists_of v = []
 
 -- w is the least worker at which P holds
 pub record Least (n : ℕ) (P : ℕ → Type 0) (w : ℕ) : Type 0 where

@@ -10,7 +10,7 @@ use Rattle.tk_record.specs.Mixing.{IsWorkerOf, of_worker}
 use Rattle.tk_queue_core.specs.Limits.{most_workers, worker_slots}
 use Rattle.tk_queue_core.specs.declared.items.Item.{Item}
 use Rattle.tk_queue_core.specs.declared.items.Item.TheVariants.{Entry as Emitted, End}
-use Rattle.tk_queue_core.specs.Core.{entries}
+use Rattle.tk_queue_core.specs.Core.{Core, IsCore, entries}
 use Rattle.tk_queue_session.specs.declared.session_rules.PassView.{PassView}
 use Rattle.tk_queue_session.specs.declared.session_rules.PassView.TheVariants.{Takes}
 use Rattle.tk_queue_session.specs.Limits.{most_events}
@@ -34,6 +34,14 @@ takes r x =
 abbrev pub fresh_receiver : TableId → List Descriptor → ℕ → ReceiverView
 fresh_receiver session table n =
     record { session = session; table = table; workers = n; taken = [] }
+
+-- At one moment nothing waited: what was taken is then all that the workers had put into the queue,
+-- of each worker what it had sent, and its mark if it had ended.
+pub record NothingWaited (r : ReceiverView) : Type 0 where
+  pub core : Core
+  pub is_core : IsCore r.workers core
+  pub taken : core.taken ≡ r.taken
+  pub waiting : core.waiting ≡ []
 
 -- the entry may stand after those that were taken: it is lawful, its key is known after them, and
 -- its worker has room

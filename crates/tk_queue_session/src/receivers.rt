@@ -5,9 +5,9 @@ ghost use Rattle.crossbeam_queue.specs.Passes.{view, IsPassOf};
 ghost use Rattle.tk_record.specs.Mixing.{IsWorkerOf, Mix};
 ghost use Rattle.tk_queue_core.specs.Core.{worker_of, entries};
 ghost use Rattle.tk_queue_session.specs.PassViews.{pass_of_receiver};
-ghost use Rattle.tk_queue_session.specs.Receivers.{fresh_receiver, takes, MayBeTaken, IsRecordable, is_marked};
+ghost use Rattle.tk_queue_session.specs.Receivers.{fresh_receiver, takes, MayBeTaken, IsRecordable, NothingWaited, is_marked};
 ghost use Rattle.tk_queue_session.specs.Tokens.{sent_by};
-ghost use Rattle.tk_queue_session.specs.Closing.{IsComplete, EndWithMarks};
+ghost use Rattle.tk_queue_session.specs.Closing.{IsComplete, EndWithMarks, sent_in};
 
 use crate::close_faults::{CloseFault, CloseReason};
 use crate::limits::WORKER_SLOTS;
@@ -54,8 +54,8 @@ impl Model for Receiver {
         × IsReceiver (seen r.pass) (arc_value r.table) r.workers r.marked };
 }
 
-/// How many events each worker of a closed session emitted. Contracts see the session, and the list
-/// of these numbers by the workers' numbers.
+/// How many events each worker of a closed session emitted. Contracts see the session, and by the
+/// workers' numbers what each worker sent and how many events that were.
 #[derive(Drop)]
 pub struct Closed {
     // It names the session, and no step is made with it.
@@ -65,12 +65,17 @@ pub struct Closed {
 
 impl Model for Closed {
     ghost use Rattle.std.specs.Prelude.{◌≡◌, length};
+    ghost use Rattle.crossbeam_queue.specs.Passes.{view as seen};
     ghost use Rattle.tk_queue_core.specs.Limits.{worker_slots};
-    ghost use Rattle.tk_queue_session.specs.Closing.{ClosedView};
+    ghost use Rattle.tk_queue_session.specs.Closing.{ClosedView, lists_of};
 
     ghost Value = { ClosedView };
 
-    ghost view = { λ c. record { session = c.pass.table_id; emitted = c.emitted } };
+    ghost view = { λ c. record {
+      session = c.pass.table_id;
+      lists = lists_of (seen c.pass);
+      emitted = c.emitted;
+    } };
 
     ghost invariant = { λ c. length c.emitted ≡ worker_slots };
 }
@@ -113,7 +118,8 @@ impl Receiver {
     }
 
     /// Takes the first item that waits, or returns `None` where the queue was empty at one moment
-    /// of the call. Nothing of a worker is taken after its mark.
+    /// of the call: all that the workers had sent until then was taken. Nothing of a worker is taken
+    /// after its mark.
     pub fn take<R: Wait>(&mut self, rt: &R) -> Option<Item>
         ensures some { IfSome result (λ item. self.new ≡ takes self.old item) }
         ensures worker { IfSome result (λ item. IsWorkerOf self.old.workers (worker_of item)) }
@@ -122,6 +128,7 @@ impl Receiver {
             is_marked (worker_of item) self.old.taken ≡ false) }
         ensures recordable { IsRecordable self.new.workers (entries self.new.taken) }
         ensures none { IfNone result (self.new ≡ self.old) }
+        ensures empty { IfNone result (NothingWaited self.old) }
     {
         match self.queue.pop_as::<ReceiverPop, R>(rt, &mut self.pass) {
             Some(Item::End(worker)) => {
@@ -155,6 +162,7 @@ impl Receiver {
         ensures mix { Mix self.workers (entries self.taken) (sent_by ended.items) }
         ensures marks { EndWithMarks self ended.items }
         ensures session { result.session ≡ self.session }
+        ensures sent { (w : ℕ) → sent_in result w ≡ sent_by ended.items w }
         ensures each { (w : ℕ) → IsWorkerOf self.workers w
             → slice_index result.emitted w ≡ length (sent_by ended.items w) }
         ensures others { (w : ℕ) → ¬ IsWorkerOf self.workers w → slice_index result.emitted w ≡ 0 }
@@ -188,6 +196,7 @@ impl Receiver {
         ensures mix { OnOk result (Mix self.workers (entries self.taken) (sent_by ended.items)) }
         ensures marks { OnOk result (EndWithMarks self ended.items) }
         ensures session { IfOk result (λ closed. closed.session ≡ self.session) }
+        ensures sent { IfOk result (λ closed. (w : ℕ) → sent_in closed w ≡ sent_by ended.items w) }
         ensures each { IfOk result (λ closed. (w : ℕ) → IsWorkerOf self.workers w
             → slice_index closed.emitted w ≡ length (sent_by ended.items w)) }
         ensures others { IfOk result (λ closed.

@@ -78,9 +78,9 @@ impl Outcome<Item, PassView> for ReceiverPop {
 }
 
 impl Lesson<Item, PassView> for ReceiverPop {
-    ghost use Rattle.std.specs.Prelude.{⊤};
+    ghost use Rattle.tk_queue_session.specs.SessionRule.{Concludes};
 
-    ghost fact = { λ v items. ⊤ };
+    ghost fact = { Concludes };
 }
 
 /// Before it makes a sender, the receiver doubles the number of static descriptors. The other half

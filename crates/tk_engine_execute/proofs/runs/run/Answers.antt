@@ -38,8 +38,8 @@ whole_is : (before after : List Event) (mid prefix whole : List Entry) → prefi
 whole_is before after mid prefix whole first is = is ∙ ap (λ l. l ++ entries_by 0 after) first
 
 is_tallied : (n : ℕ) (before after : List Event) (mid prefix : List Entry) → prefix ≡ entries_by 0 before ++ mid
-    → (r : RunResults) → r.recorded.entries ≡ prefix ++ entries_by 0 after → IsTallied n r.closed.emitted mid → IsTallied n r.closed.emitted r.recorded.entries
-is_tallied n before after mid prefix first r stated tally = tallied_whole n r.closed.emitted before after mid r.recorded.entries (whole_is before after mid prefix r.recorded.entries first stated) tally
+    → (r : RunResults) → r.recorded.entries ≡ prefix ++ entries_by 0 after → IsTallied n r.closed mid → IsTallied n r.closed r.recorded.entries
+is_tallied n before after mid prefix first r stated tally = tallied_whole n r.closed before after mid r.recorded.entries (whole_is before after mid prefix r.recorded.entries first stated) tally
 
 is_run : (may : ℕ → ℕ → ℕ → List Event → Type 0) (table : List Descriptor) (before after : List Event) (units workers : ℕ) (mid prefix : List Entry)
     → prefix ≡ entries_by 0 before ++ mid
@@ -99,7 +99,7 @@ returns-clause-tally g c =
     let first = prefix_is _ _ collector start.collector c.run_workers-collected.ensures.took_more in
     IfOk-weaker c.finish.result _ _ (λ r h. is_tallied c.args.workers before after mid collector.«record».entries (first (h.0)) r (h.1.0) (h.1.1))
     (both c.finish.result (λ _. collector.is_out_of_memory ≡ false) _ c.finish.ensures.grew
-    (both c.finish.result (λ r. r.recorded.entries ≡ collector.«record».entries ++ entries_by 0 after) (λ r. IsTallied c.args.workers r.closed.emitted mid) c.finish.ensures.entries c.finish.ensures.tally))
+    (both c.finish.result (λ r. r.recorded.entries ≡ collector.«record».entries ++ entries_by 0 after) (λ r. IsTallied c.args.workers r.closed mid) c.finish.ensures.entries c.finish.ensures.tally))
 
 pub returns-in_err-start : goal.returns-in_err-start
 returns-in_err-start g c =

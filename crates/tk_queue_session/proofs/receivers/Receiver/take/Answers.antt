@@ -4,11 +4,13 @@ use Rattle.crossbeam_queue.specs.Passes.{view}
 use Rattle.tk_queue_session.specs.PassViews.{IsReader}
 use Rattle.tk_queue_session.specs.Receivers.{ReceiverView, MayBeTaken, taken_of, is_marked}
 use Rattle.tk_queue_session.proofs.ReceiverSteps.{takes_entry, takes_mark, follows_now, follows_recorded}
-use Rattle.tk_queue_session.proofs.RuleSteps.{pops_own, learns_nothing}
+use Rattle.tk_queue_session.proofs.RuleSteps.{pops_own, learns_own}
 use Rattle.tk_queue_session.proofs.receivers.Receiver.take.Goals as goal
 
 pub pop_as-requires-clause-rule : goal.pop_as-requires-clause-rule
-pop_as-requires-clause-rule g c = (pops_own _ _ (subst IsReader (sym c.self.invariant.1.is) tt), learns_nothing _ _)
+pop_as-requires-clause-rule g c =
+    let reader = subst IsReader (sym c.self.invariant.1.is) tt in
+    (pops_own _ _ reader, learns_own _ _ reader)
 
 pub invariant_of-self : goal.invariant_of-self
 invariant_of-self g c =
