@@ -13,7 +13,7 @@ import time
 import unittest
 import zipfile
 
-from fixtures import PROGRAM, TOP, folder, needs, parameterized, run
+from fixtures import PROGRAM, TOP, folder, needs, parameterized, run, write
 from repository import BUILT, MOMENT, RUN, Repository, read
 
 VERSION = read(f"{TOP}/VERSION").decode().strip()
@@ -145,6 +145,13 @@ class Made(unittest.TestCase):
         record = read(f"{self.tar}/examples/two_tests.record")
         explained = run([f"{self.deb}/{EXPLAIN}", "list", "failed"], record, env={"PATH": f"{self.deb}/usr/bin:{os.environ['PATH']}"})
         self.assertEqual(explained.output, b'2 E|1|1|2|finish|fail|boom   [engine:e]/[t:1] "one"\n', explained.error)
+
+    def test_explain(self):
+        """Its words reach the program as they are."""
+        at = folder(self)
+        write(f"{at}/testkit", "#!/bin/sh\nprintf '<%s>' \"$@\"\n", 0o755)
+        ran = run([f"{self.deb}/{EXPLAIN}", "list", "name(a b)", "*", ""], env={"PATH": f"{at}:{os.environ['PATH']}"})
+        self.assertEqual(ran.output, b"<ask><explain><list><name(a b)><*><>", ran.error)
 
     @unittest.skipUnless(HAS_JAVA, "no javac")
     def test_jar(self):
