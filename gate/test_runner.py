@@ -8,7 +8,7 @@ import subprocess
 import time
 import unittest
 from dataclasses import dataclass, field
-from typing import Callable, Sequence
+from typing import Callable, Dict, Sequence
 
 from fixtures import TOP, Ran, folder, parameterized, run, write
 
@@ -24,6 +24,9 @@ ONE = "    def test_one(self): pass\n"
 TWO = "    def test_two(self): pass\n"
 ROWS = "    @parameterized({}, name=str)\n    def test_rows(self, row): self.assertLess(row, 9)\n"
 SUBTESTS = "    def test_subtests(self):\n        for it in range({}):\n            with self.subTest(it): self.assertLess(it, 2)\n"
+MARKS = "    def test_marks(self): import time; time.sleep(1); open(f'{fixtures.TOP}/mark', 'w').close()\n"
+SEES_MARK = "    def test_sees(self): self.assertTrue(os.path.exists(f'{fixtures.TOP}/mark'))\n"
+"""A module that leaves a file after a second, and one that has to find it there."""
 SKIPPED = '    @unittest.skip("{}")\n    def test_skipped(self): pass\n'
 
 
@@ -40,8 +43,8 @@ class Runs:
     words: Sequence[str] = ()
     says: str = ""
     """A part of what it writes."""
-    others: Sequence[str] = ()
-    """Modules that have one test."""
+    others: Dict[str, str] = field(default_factory=dict)
+    """Other modules by their names, each with its text after `HEAD`."""
 
 
 RUNS = [
@@ -54,7 +57,10 @@ RUNS = [
     Runs("a subtest that fails", SUBTESTS.format(3), "2 passed, 1 failed", "a/test_a 3\n", says="[2]"),
     Runs("no test", "    pass\n", "0 passed, 1 failed", says="a/test_a: nothing ran"),
     Runs("a case too few", ONE, "1 passed, 1 failed", "a/test_a 2\n", says="it has 1 cases, and gate/least says 2"),
-    Runs("a module that isn't in the list", ONE, "2 passed, 1 failed", says="gate/least doesn't name it", others=["a/test_b"]),
+    Runs("a case too few of many", ONE, "1 passed, 1 failed", "a/test_a 12\n", says="it has 1 cases, and gate/least says 12"),
+    Runs("a case too few, and a program may be missing", ONE, "1 passed, 1 failed", "a/test_a 2\n", ["--quick"], "it has 1 cases"),
+    Runs("a subject that runs alone", MARKS, "2 passed, 0 failed", "costs/test_b 1\na/test_a 1\n", others={"costs/test_b": SEES_MARK}),
+    Runs("a module that isn't in the list", ONE, "2 passed, 1 failed", says="gate/least doesn't name it", others={"a/test_b": ONE}),
     Runs("a module that is missing", ONE, "1 passed, 1 failed", "a/test_a 1\na/test_b 1\n", says="a/test_b: "),
     Runs("a module that can't be read", ONE + "raise OSError('x')\n", "0 passed, 1 failed", says="OSError: x"),
     Runs("a module that ends early", ONE + "    def test_two(self): os._exit(0)\n", "0 passed, 1 failed", says="it doesn't end: its status is 0"),
@@ -65,12 +71,13 @@ RUNS = [
     Runs("a skip in place of cases", ONE + SKIPPED.format("no javac"), "1 passed, 0 failed", "a/test_a 9\n", says="\n1 skipped\n"),
     Runs("a skip for another reason", ONE + SKIPPED.format("it fails"), "1 passed, 1 failed", says="isn't known: it fails"),
     Runs("a command that is missing", ONE + "    @needs('nosuch')\n    def test_two(self): 1 // 0\n", "1 passed, 0 failed", says="a/test_a: 1 skipped: no nosuch\n"),
+    Runs("a skip whose reason only begins as a known one", ONE + SKIPPED.format("no time for it"), "1 passed, 1 failed", says="isn't known: no time"),
     Runs("no program", ONE + SKIPPED.format("no proved program"), "1 passed, 1 failed", says="--quick alone allows"),
     Runs("no program, and may be none", ONE + SKIPPED.format("no proved program"), "1 passed, 0 failed", words=["--quick"]),
     Runs("a word of a test", ONE + TWO, "1 passed, 0 failed", "a/test_a 2\n", ["-k", "two"]),
     Runs("a word of rows", ONE + ROWS.format([10, 20, 30]), "0 passed, 1 failed", "a/test_a 4\n", ["-k", "rows 20"]),
     Runs("a word of nothing", ONE, "0 passed, 1 failed", words=["-k", "three"], says="nothing ran"),
-    Runs("a subject and a module", ONE, "2 passed, 0 failed", "a/test_a 1\na/test_b 1\nc/test_c 1\n", ["a/test_b", "c"], others=["a/test_b", "c/test_c"]),
+    Runs("a subject and a module", ONE, "2 passed, 0 failed", "a/test_a 1\na/test_b 1\nc/test_c 1\n", ["a/test_b", "c"], others={"a/test_b": ONE, "c/test_c": ONE}),
     Runs("a subject that is none", ONE, "there is no subject c", words=["c"]),
     Runs("a word that is none", ONE, "--none", words=["--none"]),
     Runs("another program", "    def test_one(self): self.assertEqual('/bin/x', fixtures.PROGRAM)\n", "1 passed, 0 failed", words=["--program", "/bin/x"]),
@@ -89,8 +96,8 @@ class Runner(unittest.TestCase):
         for name in ("run", "fixtures.py"):
             shutil.copy(f"{TOP}/gate/{name}", at)
         write(f"{at}/least", row.least)
-        for name in ("a/test_a", *row.others):
-            write(f"{at}/{name}.py", HEAD + (ONE if name in row.others else row.text))
+        for name, text in {"a/test_a": row.text, **row.others}.items():
+            write(f"{at}/{name}.py", HEAD + text)
         ran = run([f"{at}/run", *row.words])
         said = (ran.output + ran.error).decode()
         self.assertEqual(status_of(row.counted), ran.status, said)
@@ -156,6 +163,7 @@ def quick(name: str, counted: str, says: str = "", **how) -> Checks:
 CHECKS = [
     Checks("all pass", leaves=True),
     Checks("rt ci fails, .ci/run", "33 passed, 1 failed", words=(".ci/run",), ci='echo "2 passed, 1 failed"; exit 1'),
+    Checks("many fail", "32 passed, 12 failed", ci='echo "2 passed, 12 failed"; exit 1', gate='echo "29 passed, 0 failed"'),
     Checks("the runner does nothing", "31 passed, 1 failed", "gate/run was not counted: its status is 0", gate="exit 0"),
     Checks("nothing ran", "31 passed, 1 failed", "nothing passed", gate='echo "0 passed, 0 failed"'),
     Checks("a failure, and status 0", "33 passed, 2 failed", "its status is 0", gate='echo "2 passed, 1 failed"'),
@@ -170,6 +178,7 @@ CHECKS = [
     Checks("no repository", says="not a git repository", before=lambda at: shutil.rmtree(f"{at}/.git")),
     quick("quick", "44 passed, 0 failed", "check: nothing is proved by this run"),
     quick("a test that fails", "37 passed, 7 failed", "1 failed", tries=told(*SECOND_FAILS, "run=stopped proved=no")),
+    quick("a crate with many tests", "37 passed, 70 failed", tries=told("tests: 11", "test a ... ok")),
     quick("a test without an end", "37 passed, 0 failed", "not tried: c had not", tries=told("tests: 2", "test a ... ok", *SLOW, NO_ANSWER)),
     quick("no test that ends", "30 passed, 7 failed", "nothing passed", tries=told("tests: 1", *SLOW, NO_ANSWER)),
     quick("a test of which nothing is said", "37 passed, 14 failed", "1 failed, and its status is 0", tries=told("tests: 2", "test a ... ok", status=0)),

@@ -15,6 +15,11 @@ wait) exec cat ;;
 refuse) trap '' PIPE; echo "testkit: bad word 0" >&2; exit 2 ;;
 first) head -c 1 ;;
 limits) ulimit -v; ulimit -s ;;
+streams) for it in 0 2; do
+    at=/proc/$$/fd/$it
+    if [ -p $at ]; then echo pipe; elif [ -f $at ]; then echo file; elif [ -d $at ]; then echo folder; else echo closed; fi
+done ;;
+reads) exec {sys.executable} -S -c "import os; print(sum(1 for _ in iter(lambda: os.read(0, 1 << 20), b'')) > 9)" ;;
 threads) exec {sys.executable} -S -c "import threading as t, time; [t.Thread(target=time.sleep, args=(1,)).start() for _ in range($2)]" ;;
 *) printf '<%s>' "$@" ;;
 esac
@@ -34,7 +39,13 @@ RIGHT = [
     Case("words", [b"a b", b"", b"\xff"], b"", b"<a b><><\xff>"),
     Case("a large input", [b"copy"], lambda: LARGE, lambda: LARGE),
     Case("a file", [b"copy"], b"ab", b"ab", standard_input=Input.FILE),
+    Case("a pipe", [b"streams"], b"", b"pipe\npipe\n"),
+    Case("a file that is one", [b"streams"], b"", b"file\npipe\n", standard_input=Input.FILE),
+    Case("a folder that is one", [b"streams"], b"", b"folder\npipe\n", standard_input=Input.FOLDER),
+    Case("streams that are closed", [b"streams"], b"", b"closed\nclosed\n", standard_input=Input.CLOSED, standard_error=Output.CLOSED),
     Case("pieces", [b"copy"], b"ab" * 200, b"ab" * 200, standard_input=Input.PIECES),
+    Case("pieces that come one by one", [b"reads"], b"a" * 200_000, b"True\n", standard_input=Input.PIECES),
+    Case("a pipe that is filled at once", [b"reads"], b"a" * 200_000, b"False\n"),
     Case("an input that stays open", [b"first"], b"ab", b"a", standard_input=Input.OPEN),
     refused("an input that stays open and isn't read", LARGE, standard_input=Input.OPEN),
     *[failing(f"input {kind.name}", standard_input=kind) for kind in (Input.CLOSED, Input.FOLDER)],

@@ -1,17 +1,19 @@
 """Tests `./testkit` on a small repository, in which scripts stand for `rt` and for the proved program."""
 
+import hashlib
 import json
 import os
 import pty
+import re
 import shutil
 import sys
 import time
 import unittest
-from typing import Callable, Dict
+from typing import Callable, Dict, List
 
-from fixtures import TOP, Ran, folder, needs, run, write
+from fixtures import TOP, Ran, WithProgram, ask, folder, needs, parameterized, run, write
 
-COMMANDS = ("awk", "cat", "dirname", "find", "head", "mktemp", "readlink", "rm", "sed", "tail")
+COMMANDS = tuple("awk cat cut date dirname find head mkdir mktemp mv readlink rm sed sha256sum sleep sort tail xargs".split())
 """What the launcher calls besides `rt`."""
 
 CRATES = """# Libraries first.
@@ -43,12 +45,32 @@ sys.stderr.write(error)
 sys.exit(status)
 """
 
-WORDS = ["ask", "a word", "two\nlines", "--", "", "*", "$HOME \\n", "-n"]
+KEPT = PROGRAM.replace("\n", "\n[ $# = 0 ] && exit 2\n", 1)
+"""What stands for the program of bin/. To no words it says, as the program does, that the command line is bad."""
+
+USAGE, SOURCES = "crates/testkit/usage.txt", "tools/sources.sh"
+
+WORDS = ["ask", "stats", "a word", "two\nlines", "--", "", "*", "$HOME \\n", "-n"]
 
 BINARY = bytes(range(256)) * 65536
 """16 MiB."""
 
-NOT_PROVED = "testkit: this build is not proved here, "
+SMALL = """#![tactic(auto)]
+
+use std::process::ExitCode;
+
+fn main(rt: HostRuntime) -> ExitCode {
+    let _ = rt.print("a line\\n");
+    let _ = rt.eprint("testkit: unit 1 failed\\n");
+    ExitCode::from(3)
+}
+"""
+"""A program that is compiled in seconds."""
+
+NOT_PROVED = "this build is not proved here"
+OTHER_SOURCES = "the sources are not those of bin/"
+OTHER_PROGRAM = "bin/testkit-x86_64-linux is not the program of bin/PROVED-WITH"
+NOT_RUN = "bin/testkit-x86_64-linux can't be run here"
 DEVICE_FAILED = "testkit: device failed\n"
 TOO_LARGE = "testkit: input too large\n"
 
@@ -58,14 +80,16 @@ class Repository:
 
     def __init__(self, test: unittest.TestCase):
         self.at, self.temporary = f"{os.path.realpath(folder(test))}/a folder", folder(test)
-        self.program, self.commands = self.path("crates/testkit/out/testkit"), self.path("bin")
+        self.program, self.commands = self.path("crates/testkit/out/testkit"), self.path("commands")
         self.write("crates.txt", CRATES)
         for name in ("tk_low", "tk_high", "tk_other", "testkit", "test_high"):
             for part in ("src/lib.rt", "src/parts/part.rt", "specs/Lib.antt", "proofs/Proof.antt", "must-fail/a.edit", "README.md", "out/rlib/stamp"):
                 self.write(f"crates/{name}/{part}", "old\n")
         shutil.rmtree(self.path("crates/testkit/specs"))
-        shutil.copy(f"{TOP}/testkit", self.at)
-        self.write("bin/rt", RT, 0o755)
+        for name in ("testkit", SOURCES, USAGE):
+            os.makedirs(os.path.dirname(self.path(name)), exist_ok=True)
+            shutil.copy(f"{TOP}/{name}", self.path(name))
+        self.write("commands/rt", RT, 0o755)
         for name in COMMANDS:
             os.symlink(shutil.which(name) or name, f"{self.commands}/{name}")
         self.write("crates/testkit/out/testkit", PROGRAM, 0o755)
@@ -90,6 +114,14 @@ class Repository:
     def unprove(self) -> None:
         os.remove(self.program)
 
+    def keep(self, program: str = KEPT, sources: str = "") -> None:
+        """Puts a program into bin/ as one of these sources, and takes the proved one and `rt` away."""
+        self.unprove()
+        os.remove(f"{self.commands}/rt")
+        sources = sources or run(["sh", "-c", ". tools/sources.sh; sum_of_sources"], cwd=self.at).output.decode().strip()
+        self.write("bin/testkit-x86_64-linux", program, 0o755)
+        self.write("bin/PROVED-WITH", f"# kit a kit\n# sources {sources}\n{hashlib.sha256(program.encode()).hexdigest()}  testkit-x86_64-linux\n")
+
     def call(self, *words: str, input: bytes = b"", streams: str = "", **how) -> Ran:
         """Calls `./testkit`, with these redirections of a shell."""
         environment = {"PATH": self.commands, "TMPDIR": self.temporary, "REPOSITORY": self.at}
@@ -101,14 +133,16 @@ class Repository:
             return file.read()
 
 
-class Launcher(unittest.TestCase):
+class Calls(unittest.TestCase):
+    """Calls of the launcher of a repository, `it`."""
+
     def setUp(self) -> None:
         self.it = Repository(self)
 
-    def assert_tried(self, ran: Ran, output: str = "5\n", line: str = "", status: int = 0) -> None:
+    def assert_tried(self, ran: Ran, output: str = "5\n", line: str = "", status: int = 0, why: str = NOT_PROVED) -> None:
         """Looks at what came of a call that `rt try` answered: one line more than the program has, which comes first."""
         first, _, rest = ran.error.decode().partition("\n")
-        self.assertTrue(first.startswith(NOT_PROVED) and "./check" in first and "minutes" in first and "milliseconds" in first, ran)
+        self.assertTrue(first.startswith(f"testkit: {why}") and all(it in first for it in (", so rt try ", "./check", "minutes", "milliseconds")), ran)
         self.assertEqual((ran.output.decode(), rest, ran.status), (output, line, status))
         self.assertEqual(os.listdir(self.it.temporary), [])
 
@@ -119,6 +153,8 @@ class Launcher(unittest.TestCase):
         self.assertTrue(said[-1].startswith("testkit: ") and all(it in said[-1] for it in parts), ran)
         self.assertEqual(os.listdir(self.it.temporary), [])
 
+
+class Launcher(Calls):
     def test_proved_program(self) -> None:
         """It runs in the caller's folder, also where a link leads to the launcher."""
         elsewhere = os.path.realpath(folder(self))
@@ -145,7 +181,7 @@ class Launcher(unittest.TestCase):
             with self.subTest(name):
                 self.it = Repository(self)
                 change(self.it)
-                self.assert_tried(self.it.call("ask"))
+                self.assert_tried(self.it.call("ask", "stats"))
 
     def test_other_changes(self) -> None:
         for path in ("README.md", "must-fail/a.edit", "out/rlib/stamp", "out/new"):
@@ -171,16 +207,16 @@ class Launcher(unittest.TestCase):
         for streams, *wanted in (("<&-", DEVICE_FAILED, 3), ("<.", DEVICE_FAILED, 3), ("</dev/zero", TOO_LARGE, 2)):
             with self.subTest(streams):
                 self.it.answers("", TOO_LARGE, 2)
-                self.assert_tried(self.it.call(streams=streams), "", *wanted)
+                self.assert_tried(self.it.call("run", streams=streams), "", *wanted)
                 self.assertGreater(len(self.it.given()), 16 << 20)
                 self.it.answers("", "testkit: bad word 0\n", 2)
-                self.assert_tried(self.it.call(streams=streams), "", "testkit: bad word 0\n", 2)
+                self.assert_tried(self.it.call("run", streams=streams), "", "testkit: bad word 0\n", 2)
 
     def test_terminal(self) -> None:
         """It isn't read."""
         self.it.unprove()
         terminal, end = pty.openpty()
-        self.assert_tried(self.it.call("--help", stdin=end, seconds=30))
+        self.assert_tried(self.it.call("ask", "stats", stdin=end, seconds=30))
         self.assertEqual(self.it.given(), b"")
         os.close(terminal)
         os.close(end)
@@ -193,9 +229,9 @@ class Launcher(unittest.TestCase):
         for streams, how in ((">&-", {}), (">/dev/full", {}), ("", {"stdout": writer})):
             with self.subTest(streams):
                 self.it.answers("5\n")
-                self.assert_tried(self.it.call(streams=streams, **how), "", DEVICE_FAILED, 3)
+                self.assert_tried(self.it.call("run", streams=streams, **how), "", DEVICE_FAILED, 3)
                 self.it.answers("", "testkit: bad word 0\n", 2)
-                self.assert_tried(self.it.call(streams=streams, **how), "", "testkit: bad word 0\n", 2)
+                self.assert_tried(self.it.call("run", streams=streams, **how), "", "testkit: bad word 0\n", 2)
         os.close(writer)
 
     def test_no_answer(self) -> None:
@@ -210,27 +246,195 @@ class Launcher(unittest.TestCase):
         ):
             with self.subTest(ended):
                 self.it.answers("5\n", "testkit: bad word 0\n", status, f"{ended}\n")
-                self.assert_failed(self.it.call("ask"), "no answer by rt try", *ended.splitlines()[-1:], lines=2)
+                self.assert_failed(self.it.call("replay"), "no answer by rt try", *ended.splitlines()[-1:], lines=2)
         self.it.answers("5\n", "", 130, "run=none proved=no\n")
-        ran = self.it.call("ask")
+        ran = self.it.call("replay")
         self.assertEqual((ran.status, ran.output, ran.error.count(b"\n")), (130, b"", 1))
 
     def test_no_toolchain(self) -> None:
         os.remove(f"{self.it.commands}/rt")
         self.assertEqual(self.it.call("1").status, 1)
         self.it.unprove()
-        self.assert_failed(self.it.call("1"), "testkit_VERSION_amd64.deb", "testkit-VERSION-x86_64-linux.tar.gz", lines=1)
+        self.assert_failed(self.it.call("run"), NOT_PROVED, "no command rt", "README.md", lines=1)
+
+
+    def test_seconds(self) -> None:
+        """On a terminal a line says how long `rt try` has taken, which goes at its end."""
+        self.it.unprove()
+        self.it.write("commands/rt", f"#!/bin/sh\nsleep 2.5\nexec '{self.it.commands}/answer'\n", 0o755)
+        self.it.write("commands/answer", RT, 0o755)
+        terminal, end = pty.openpty()
+        ran = self.it.call("run", stderr=end)
+        os.close(end)
+        self.assertEqual((ran.status, ran.output), (0, b"5\n"))
+        said = os.read(terminal, 4096).decode()
+        os.close(terminal)
+        self.assertRegex(said, r"\Atestkit: [^\r\n]*\r\n\rtestkit: rt try has taken 1 s\rtestkit: rt try has taken 2 s\r\x1b\[K\Z")
+
+
+class Kept(Calls):
+    """The program of bin/ answers where no newer one was proved here, and where it was made of these sources."""
+
+    def assert_kept(self) -> None:
+        """The program of bin/ answers, at the first call and then by the sum that is kept."""
+        for _ in range(2):
+            self.assertEqual(self.it.call("3", input=b"in"), Ran(3, f"{os.getcwd()}\n<3>in".encode(), b"testkit: it complains\n"))
+
+    def assert_not_kept(self, why: str) -> None:
+        """Without `rt` there is no answer, for this reason; with it, `rt try` answers, and says so."""
+        self.assert_failed(self.it.call("run"), f"testkit: {why}", ", and there is no command rt", lines=1)
+        self.it.write("commands/rt", RT, 0o755)
+        self.assert_tried(self.it.call("run"), why=why)
+        os.remove(f"{self.it.commands}/rt")
+
+    def test_answers(self) -> None:
+        elsewhere = os.path.realpath(folder(self))
+        os.symlink(self.it.path("testkit"), f"{elsewhere}/link")
+        self.it.keep()
+        ran = run([f"{elsewhere}/link", *WORDS], BINARY, cwd=elsewhere, env={"PATH": self.it.commands})
+        wanted = f"{elsewhere}\n{''.join(f'<{it}>' for it in WORDS)}".encode() + BINARY
+        self.assertEqual((ran.output == wanted, ran.error, ran.status), (True, b"testkit: it complains\n", 0))
+        self.assert_kept()
+
+    def test_proved_program(self) -> None:
+        """What was proved here comes first, as long as it is new."""
+        self.it.keep("#!/bin/sh\nexit 2\n")
+        self.it.write("crates/testkit/out/testkit", KEPT, 0o755)
+        self.assert_kept()
+
+    def test_other_changes(self) -> None:
+        """What the program isn't made of changes, and so do times of what it is made of."""
+        self.it.keep()
+        self.assert_kept()
+        for path in ("README.md", "must-fail/a.edit", "out/new", "src/.lib.rt.swp"):
+            self.it.write(f"crates/tk_low/{path}", "new\n")
+        self.it.write("crates/tk_other/src/lib.rt", "new\n")
+        self.it.write("crates/tk_high/src/lib.rt", "old\n")
+        self.assert_kept()
+
+    def test_changed_sources(self) -> None:
+        """Each change is seen, before and after the sum was kept, also of a file that has the time that it had; what is undone is as before."""
+        low = "crates/tk_low/src/lib.rt"
+        changes: Dict[str, Callable[[Repository], object]] = {
+            "crates.txt": lambda it: it.write("crates.txt", CRATES + "#\n"),
+            "a blank": lambda it: it.write(low, "old \n"),
+            "a blank, and the time as it was": lambda it: (it.write(low, "old \n"), os.utime(it.path(low), (1, 1))),
+            "another name": lambda it: os.rename(it.path(low), it.path("crates/tk_low/src/Lib.rt")),
+            "a file that is gone": lambda it: os.remove(it.path("crates/tk_high/proofs/Proof.antt")),
+            "a folder that is gone": lambda it: shutil.rmtree(it.path("crates/tk_high/specs")),
+            "a new file": lambda it: it.write("crates/testkit/src/new.rt", ""),
+        }
+        for name, change in changes.items():
+            for is_first in (False, True):
+                with self.subTest(f"{name}, {is_first}"):
+                    self.it = Repository(self)
+                    self.it.keep()
+                    if not is_first:
+                        self.assert_kept()
+                    change(self.it)
+                    self.assert_not_kept(OTHER_SOURCES)
+        self.it.write("crates/testkit/src/new.rt", "")
+        os.remove(self.it.path("crates/testkit/src/new.rt"))
+        self.assert_kept()
+
+    def test_other_program(self) -> None:
+        changes: Dict[str, Callable[[Repository], object]] = {
+            OTHER_SOURCES: lambda it: it.keep(sources="0" * 64),
+            OTHER_PROGRAM: lambda it: (it.keep(), it.write("bin/testkit-x86_64-linux", f"{KEPT}#\n", 0o755)),
+            NOT_RUN: lambda it: it.keep("#!/bin/sh\nexit 1\n"),
+            f"{NOT_RUN} (README.md": lambda it: (it.keep(), os.chmod(it.path("bin/testkit-x86_64-linux"), 0o644)),
+            NOT_PROVED: lambda it: (it.keep(), os.remove(it.path("bin/PROVED-WITH"))),
+        }
+        for why, change in changes.items():
+            with self.subTest(why):
+                self.it = Repository(self)
+                change(self.it)
+                self.assert_not_kept(why)
+
+    def test_no_place_for_the_sum(self) -> None:
+        self.it.keep()
+        self.it.write("out", "")
+        self.assert_kept()
+
+
+WRONG_WORDS: Dict[str, List[List[str]]] = {
+    "bad command line": [[], [""], ["--help"], ["-h"], ["help", "replay"], ["Run"], ["repla"], ["ask stats"], ["*"], ["a\nb"], ["--workers", "1", "run"]],
+    "unknown question": [["ask"], ["ask", ""], ["ask", "--help"], ["ask", "stat"], ["ask", "ask", "stats"], ["ask", "Stats"], ["ask", "st*", "x"]],
+}
+"""Words that are plainly wrong, by what the program says of them."""
+
+OTHER_WORDS = [["ask", "stats", "x"], ["ask", "explain"], ["replay", "--help"], ["run", "--workers", "0"], ["--", "run"], ["ask", "stät"]]
+"""Words that are left to the program, be they wrong or not."""
+
+
+class Usage(unittest.TestCase):
+    """Plainly wrong words cost nothing: nothing is compiled, and the launcher says what the program says."""
+
+    with open(f"{TOP}/{USAGE}", encoding="utf-8") as file:
+        PAGE = file.read()
+
+    @parameterized([(line, words) for line, table in WRONG_WORDS.items() for words in table], name=str)
+    def test_wrong_words(self, row) -> None:
+        line, words = row
+        it = Repository(self)
+        it.unprove()
+        for streams, wanted in (("", f"testkit: {line}\n{self.PAGE}".encode()), ("2>&-", b""), ("2>/dev/full", b"")):
+            self.assertEqual(it.call(*words, streams=streams), Ran(2, b"", wanted))
+        self.assertFalse(os.path.exists(it.path("call")))
+
+    @parameterized(OTHER_WORDS, name=str)
+    def test_other_words(self, row) -> None:
+        it = Repository(self)
+        it.unprove()
+        self.assertEqual(it.call(*row).output, b"5\n")
+
+    def test_documents(self) -> None:
+        """The page has the command lines that README.md and the man page have."""
+        forms = [re.findall(r"^ *(testkit .*?< [A-Z]+)", text, re.MULTILINE) for text in (self.PAGE, read("README.md"), man_page())]
+        page, *others = [[" ".join(it.split()) for it in found] for found in forms]
+        self.assertGreaterEqual(len(page), 11)
+        self.assertEqual([page, page], others)
+
+
+def read(path: str) -> str:
+    with open(f"{TOP}/{path}", encoding="utf-8") as file:
+        return file.read()
+
+
+def man_page() -> str:
+    """The man page without its marks, and without three dots."""
+    return re.sub(r"\\f[BIR]", "", read("docs/testkit.1")).replace("\\-", "-").replace(" ...", " ..")
+
+
+class OfProgram(WithProgram):
+    def test_wrong_words(self) -> None:
+        """The program has the launcher's line and status, and nothing below the line, or the page."""
+        for line, table in WRONG_WORDS.items():
+            for words in table:
+                with self.subTest(words):
+                    ran, head = ask(words), f"testkit: {line}\n"
+                    self.assertEqual((ran.status, ran.output), (2, b""))
+                    self.assertIn(ran.error.decode(), (head, head + Usage.PAGE))
+
+    def test_questions(self) -> None:
+        """Each question of the page is one."""
+        questions = re.findall(r"^  testkit ask (\w+)", Usage.PAGE, re.MULTILINE)
+        self.assertGreaterEqual(len(questions), 9)
+        for name in questions:
+            with self.subTest(name):
+                self.assertNotIn(b"unknown question", ask(["ask", name], b"testkit-record|2\n").error)
 
 
 @needs("rt")
 class Toolchain(unittest.TestCase):
     def test_answer(self) -> None:
-        """The toolchain's own `rt try` answers, as the program does."""
+        """The toolchain's own `rt try` says of a small program what the launcher makes of it."""
         at = f"{folder(self)}/a folder"
-        shutil.copytree(f"{TOP}/crates", f"{at}/crates", ignore=shutil.ignore_patterns("out", "must-fail"))
-        for name in ("testkit", "crates.txt", "HANDLES"):
-            shutil.copy(f"{TOP}/{name}", at)
-        with open(f"{TOP}/examples/two_tests.record", "rb") as record:
-            ran = run([f"{at}/testkit", "ask", "stats", "failed=1", "skipped=0"], record.read(), seconds=900)
-        self.assertEqual((ran.status, ran.output.splitlines()[-1:]), (1, [b"mismatch skipped expected 0 actual 1"]), ran)
-        self.assertTrue(ran.error.startswith(NOT_PROVED.encode()) and ran.error.count(b"\n") == 1, ran)
+        write(f"{at}/crates.txt", "testkit:\n")
+        write(f"{at}/crates/testkit/src/main.rt", SMALL)
+        for name in ("testkit", SOURCES, USAGE):
+            os.makedirs(os.path.dirname(f"{at}/{name}"), exist_ok=True)
+            shutil.copy(f"{TOP}/{name}", f"{at}/{name}")
+        ran = run([f"{at}/testkit", "run"], b"")
+        self.assertEqual((ran.status, ran.output), (3, b"a line\n"), ran)
+        self.assertRegex(ran.error, rb"\Atestkit: [^\n]*\ntestkit: unit 1 failed\n\Z")

@@ -9,11 +9,10 @@ import shutil
 import sys
 import tarfile
 import tempfile
-import time
 import unittest
 import zipfile
 
-from fixtures import PROGRAM, TOP, folder, needs, parameterized, run
+from fixtures import PROGRAM, TOP, folder, needs, parameterized, run, write
 from repository import BUILT, MOMENT, RUN, Repository, read
 
 VERSION = read(f"{TOP}/VERSION").decode().strip()
@@ -146,6 +145,13 @@ class Made(unittest.TestCase):
         explained = run([f"{self.deb}/{EXPLAIN}", "list", "failed"], record, env={"PATH": f"{self.deb}/usr/bin:{os.environ['PATH']}"})
         self.assertEqual(explained.output, b'2 E|1|1|2|finish|fail|boom   [engine:e]/[t:1] "one"\n', explained.error)
 
+    def test_explain(self):
+        """Its words reach the program as they are."""
+        at = folder(self)
+        write(f"{at}/testkit", "#!/bin/sh\nprintf '<%s>' \"$@\"\n", 0o755)
+        ran = run([f"{self.deb}/{EXPLAIN}", "list", "name(a b)", "*", ""], env={"PATH": f"{at}:{os.environ['PATH']}"})
+        self.assertEqual(ran.output, b"<ask><explain><list><name(a b)><*><>", ran.error)
+
     @unittest.skipUnless(HAS_JAVA, "no javac")
     def test_jar(self):
         with zipfile.ZipFile(f"{self.tar}/{JAR}") as jar:
@@ -153,7 +159,7 @@ class Made(unittest.TestCase):
             forms = {(it.create_system, it.external_attr >> 16, it.compress_type, it.date_time) for it in jar.infolist()}
         heads = ["META-INF/MANIFEST.MF", "META-INF/LICENSE", "META-INF/services/org.junit.platform.launcher.TestExecutionListener"]
         self.assertEqual(names, heads + sorted(names[3:]))
-        self.assertEqual(forms, {(3, 0o100644, zipfile.ZIP_DEFLATED, time.gmtime(MOMENT)[:6])})
+        self.assertEqual(forms, {(3, 0o100644, zipfile.ZIP_STORED, (1980, 1, 1, 0, 0, 0))})
         self.assertEqual({re.sub(r"(\$\w+)?\.class$", "", name) for name in names[3:]}, {f"testkit/{it}" for it in ("RecordListener", "ResultsWriter", "RecordAssert")})
         self.assertEqual({found[name][4:8] for name in names[3:]}, {b"\0\0\0\x34"}, "Java 8")
         wanted = f"Manifest-Version: 1.0\r\nImplementation-Title: testkit\r\nImplementation-Version: {VERSION}\r\n\r\n".encode()

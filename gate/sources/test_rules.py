@@ -110,6 +110,7 @@ RIGHT = [
     ("the tree", {}),
     ("a method after an apostrophe and a quote", changed(TESTS, "lane.count()", "'\\'' + '\"' + lane.count() + '\"'")),
     ("a wrong body that changes a text", edit(('"Memory"', '"memory"'))),
+    ("two errors of memory", changed(LOW, "Err(LaneFault::Memory) =>", "Err(LaneFault::Memory)\n        | Err(LaneFault::OutOfMemory) =>")),
     ("a module of laws", {ROOT: TREE[ROOT] + "pub mod laws;\n", "crates/engine_testkit/src/laws.rt": "pub use tk_low::laws::law;\n"}),
     ("a wrong body in two files", {EDIT: TREE[EDIT] + "file: src/lib.rt\nold: mod lanes;\nnew: pub mod lanes;\n"}),
 ]
@@ -126,6 +127,9 @@ WRONG = [
     ("a name that no library has", "gives out spare, which is no library's own", {LOWER: TREE[LOWER] + "pub use tk_low::spare;\n"}),
     ("no reason", "lanes.rt:21: a fault of memory is made", changed(LOW, f"// No allocation failed here:{REASON}", "//")),
     ("an error of memory for any", "a fault of memory is made", changed(LOW, "Err(LaneFault::Memory) =>", "Err(LaneFault::NoMemory) =>")),
+    ("an error of memory for one of two", "a fault of memory is made", changed(LOW, "Err(LaneFault::Memory) =>", "Err(LaneFault::Memory | LaneFault::Full) =>")),
+    ("an error of memory for one above", "a fault of memory is made", changed(LOW, "Err(LaneFault::Memory) =>", "Err(LaneFault::Full)\n        | Err(LaneFault::Memory) =>")),
+    ("a fault below a test of two", "a fault of memory is made", changed(LOW, LAST, "    if let LaneFault::Full | LaneFault::Memory = it {\n        return Err(AllocError);\n")),
     ("a fault of memory of another error", "a fault of memory is made", changed(LOW, "impl From<AllocError>", "impl From<ParseError>")),
     ("a fault below a test of another", "a fault of memory is made", changed(LOW, LAST, "    if let LaneFault::Full = it {\n        return Err(AllocError);\n")),
     ("a reason above no fault", "no fault of memory is made below", changed(LOW, "return Err(LaneFault::Memory);", "return Err(LaneFault::Full);")),

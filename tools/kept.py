@@ -1,0 +1,78 @@
+"""What bin/ has of a tree, for `./testkit` and for whoever has no toolchain: the program, the jar of the listener for JUnit, and PROVED-WITH.
+
+PROVED-WITH says with which kit the program was proved, of which sources it was made, by one sum, and which compiler made the jar, and has
+the sum of each file, so that `sha256sum -c PROVED-WITH` checks them.
+"""
+
+import hashlib
+import os
+import subprocess
+from typing import Dict, List
+
+import checked
+import listener
+from asking import Failed, Refused
+
+PROGRAM = "testkit-x86_64-linux"
+PROVED_WITH = "PROVED-WITH"
+
+
+def shell(top: str, line: str) -> "subprocess.CompletedProcess[str]":
+    """Runs a line of shell after `tools/sources.sh`."""
+    return subprocess.run(["sh", "-c", f". tools/sources.sh; {line}"], cwd=top, stdout=subprocess.PIPE, text=True, check=False)
+
+
+def read(path: str) -> bytes:
+    """Returns the bytes of a file, or none where there is no file."""
+    try:
+        with open(path, "rb") as file:
+            return file.read()
+    except FileNotFoundError:
+        return b""
+
+
+def built(top: str) -> bytes:
+    """Returns the program that was built, where it is no older than its sources and runs."""
+    path = f"{top}/{checked.PROGRAM}"
+    if shell(top, f"is_new {checked.PROGRAM}").returncode:
+        raise Refused(1, f"tools/keep_program: there is no {checked.PROGRAM} that is newer than its sources: ./check builds it\n".encode())
+    # (to no words the program says that the command line is bad)
+    ran = subprocess.run([path], stdin=subprocess.DEVNULL, stdout=subprocess.DEVNULL, stderr=subprocess.DEVNULL, check=False)
+    if ran.returncode != 2:
+        raise Failed(f"{checked.PROGRAM} ends with status {ran.returncode}, where it is given no words")
+    return read(path)
+
+
+def jar_of(top: str) -> bytes:
+    """Returns the jar of the listener as it is in the work tree."""
+    names = [os.path.relpath(f"{at}/{name}", top) for at, _, found in os.walk(f"{top}/{listener.SOURCES}") for name in found]
+    return listener.make_jar({name: read(f"{top}/{name}") for name in [*names, "LICENSE", "VERSION"]})
+
+
+def proved_with(top: str, compiler: str, files: Dict[str, bytes]) -> bytes:
+    """Returns the text of PROVED-WITH."""
+    kit = subprocess.run(["rt", "version"], stdin=subprocess.DEVNULL, stdout=subprocess.PIPE, text=True, check=True).stdout.splitlines()[0]
+    sources = shell(top, "sum_of_sources").stdout.strip()
+    sums = "".join(f"{hashlib.sha256(data).hexdigest()}  {name}\n" for name, data in sorted(files.items()))
+    return f"# kit {kit}\n# sources {sources}\n# {compiler}\n{sums}".encode()
+
+
+def wanted(top: str) -> Dict[str, bytes]:
+    """Returns the files that bin/ has to have."""
+    if not listener.can_be_made():
+        raise Failed(listener.MISSING)
+    files = {PROGRAM: built(top), listener.JAR: jar_of(top)}
+    return {**files, PROVED_WITH: proved_with(top, listener.compiler(), files)}
+
+
+def renew(top: str) -> List[str]:
+    """Writes the files of bin/ that differ, each once it is whole, and returns their names."""
+    files = wanted(top)
+    changed = [name for name, data in files.items() if read(f"{top}/bin/{name}") != data]
+    os.makedirs(f"{top}/bin", exist_ok=True)
+    for name in changed:
+        with open(f"{top}/bin/.{name}", "wb") as file:
+            file.write(files[name])
+        os.chmod(f"{top}/bin/.{name}", 0o755 if name == PROGRAM else 0o644)
+        os.replace(f"{top}/bin/.{name}", f"{top}/bin/{name}")
+    return changed

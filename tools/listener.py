@@ -1,0 +1,77 @@
+"""Makes the jar of the listener for JUnit. The same sources, compiled by the same JDK, give the same bytes."""
+
+import io
+import os
+import re
+import shutil
+import subprocess
+import tempfile
+import zipfile
+from typing import Dict
+
+SOURCES = "examples/junit"
+LISTENER = ("RecordListener", "ResultsWriter", "RecordAssert")
+"""What the jar has: the listener, what writes the results of EngineTestKit, and the assertions of a record."""
+SERVICE = "META-INF/services/org.junit.platform.launcher.TestExecutionListener"
+JAR = "testkit-listener.jar"
+JUNIT = ("junit-platform-commons", "junit-platform-engine", "junit-platform-launcher", "opentest4j", "apiguardian-api")
+JARS = [f"/usr/share/java/{it}.jar" for it in JUNIT]
+"""What the listener is compiled with: jars of Debian's package `junit5`."""
+MISSING = "without a JDK and JUnit (apt-get install junit5 default-jdk-headless) there is no jar"
+
+
+class NotCompiled(Exception):
+    """The listener can't be compiled."""
+
+
+def can_be_made() -> bool:
+    """Whether a JDK and JUnit are there."""
+    return shutil.which("javac") is not None and all(map(os.path.exists, JARS))
+
+
+def compiler() -> str:
+    """Returns the name of the compiler, `javac-17` as an example: others may write other bytes."""
+    said = subprocess.run(["javac", "-version"], stdout=subprocess.PIPE, stderr=subprocess.STDOUT, text=True, check=True).stdout
+    return "javac-" + re.findall(r"javac (?:1\.)?(\d+)", said)[0]
+
+
+def classes(files: Dict[str, bytes]) -> Dict[str, bytes]:
+    """Compiles the listener, and returns its classes by their names in a jar; `files` has the files of `SOURCES`."""
+    with tempfile.TemporaryDirectory(prefix="listener-") as room:
+        for name in [it for it in files if it.startswith(f"{SOURCES}/")]:
+            os.makedirs(os.path.dirname(f"{room}/{name}"), exist_ok=True)
+            with open(f"{room}/{name}", "wb") as file:
+                file.write(files[name])
+        words = ["javac", "-encoding", "UTF-8", "-proc:none", "--release", "8", "-cp", ":".join(JARS), "-d", "classes"]
+        words += ["-sourcepath", f"{SOURCES}:{SOURCES}/kit", *(f"{SOURCES}/testkit/{it}.java" for it in LISTENER)]
+        ran = subprocess.run(words, cwd=room, capture_output=True, text=True, check=False)
+        if ran.returncode:
+            raise NotCompiled(f"the listener can't be compiled: {ran.stderr}")
+        # (what stands for JUnit's kit is compiled beside it, and is not ours to give)
+        found = {}
+        for name in sorted(os.listdir(f"{room}/classes/testkit")):
+            with open(f"{room}/classes/testkit/{name}", "rb") as file:
+                found[f"testkit/{name}"] = file.read()
+        return found
+
+
+def make_jar(files: Dict[str, bytes]) -> bytes:
+    """Returns the jar; `files` has the files of `SOURCES`, `LICENSE` and `VERSION`.
+
+    Its entries have no times of their own, and aren't compressed: others may compress to other bytes.
+    """
+    version = files["VERSION"].decode().strip()
+    manifest = ("Manifest-Version: 1.0", "Implementation-Title: testkit", f"Implementation-Version: {version}", "", "")
+    entries = {
+        "META-INF/MANIFEST.MF": "\r\n".join(manifest).encode(),
+        "META-INF/LICENSE": files["LICENSE"],
+        SERVICE: b"testkit.RecordListener\n",
+        **classes(files),
+    }
+    jar = io.BytesIO()
+    with zipfile.ZipFile(jar, "w") as file:
+        for name, data in entries.items():
+            entry = zipfile.ZipInfo(name)
+            entry.create_system, entry.external_attr = 3, 0o100644 << 16
+            file.writestr(entry, data)
+    return jar.getvalue()
