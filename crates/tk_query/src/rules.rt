@@ -70,7 +70,7 @@ pub(crate) fn rule_of(condition: &Condition) -> Rule<'_>
         Condition::Failed(Some(text)) => Rule::Payload(OfStatus(Status::Failed), Message(text)),
         Condition::Aborted(None) => Rule::Column(OfStatus(Status::Aborted)),
         Condition::Aborted(Some(text)) => Rule::Payload(OfStatus(Status::Aborted), Message(text)),
-        Condition::Message(text) => { Rule::Payload(OfKind(Kind::Finished), MessageContains(text)) }
+        Condition::Message(text) => Rule::Payload(OfKind(Kind::Finished), MessageContains(text)),
         Condition::File(text) => Rule::Payload(OfKind(Kind::File), Path(text)),
         Condition::Entry(pairs) => Rule::Payload(OfKind(Kind::Reporting), Report(pairs)),
         Condition::All(_) | Condition::Any(_) | Condition::Not(_) => Rule::Members,
