@@ -22,6 +22,7 @@ fn texts() -> &'static str {
     "all(test,any(),not(failed(a%28b%29%2C%25é)),entry(k,v,,),kind(skip))
 any(all(),container,engine,started,succeeded,failed,aborted,aborted(),failed(m))
 not(any(id([engine:e]/[t:1]),name(one),skipped(),file(out/log.txt),entry(),kind(dynamic)))
+any(segment(t%2C,1),segment(,),message(),message(b%28))
 "
 }
 
@@ -95,6 +96,15 @@ fn name_others(alloc: Global) -> bool {
         && is_written_as(alloc, &Condition::finished_successfully(), "succeeded")
 }
 
+// Whether the conditions that JUnit has no name for have their texts.
+fn name_further(alloc: Global) -> bool {
+    is_made_as(
+        alloc,
+        Condition::segment(alloc, "t", "a,b"),
+        "segment(t,a%2Cb)",
+    ) && is_made_as(alloc, Condition::message_contains(alloc, "m"), "message(m)")
+}
+
 // The event of a test that finished, as a list of two conditions.
 fn finished_test(alloc: Global) -> Result<Condition, AllocError> {
     let mut both = Vec::new(alloc);
@@ -108,6 +118,7 @@ fn conditions_by_name(rt: HostRuntime) {
     assert!(rt; name_descriptors(rt.alloc()));
     assert!(rt; name_ends(rt.alloc()));
     assert!(rt; name_others(rt.alloc()));
+    assert!(rt; name_further(rt.alloc()));
     let event = finished_test(rt.alloc());
     assert!(rt; is_made_as(rt.alloc(), event, "all(test,succeeded)"));
 }

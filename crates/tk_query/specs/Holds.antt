@@ -44,6 +44,7 @@ use Rattle.tk_query_conditions.specs.Cond.{
   Skipped,
   FailedWith,
   AbortedWith,
+  Message,
   File,
   Pairs,
   NoPairs,
@@ -52,6 +53,7 @@ use Rattle.tk_query_conditions.specs.Cond.{
   Plain,
   With,
   OfKind,
+  HasSegment,
   HasPairs,
   All,
   Any,
@@ -79,6 +81,11 @@ abbrev pub is_engine : List SegmentView → Bool
 is_engine (s ∷ []) = bytes_eq s.tag (codes "engine")
 is_engine _ = false
 
+-- one of the segments has this tag and this value
+abbrev pub has_segment : List ℕ → List ℕ → List SegmentView → Bool
+has_segment tag value id =
+    list_any (λ (s : SegmentView). bytes_eq s.tag tag && bytes_eq s.value value) id
+
 -- the payload is this reason
 abbrev pub has_reason : List ℕ → Payload → Bool
 has_reason text (Reason given) = bytes_eq given text
@@ -93,6 +100,11 @@ has_path text _ = false
 abbrev pub has_message : List ℕ → Payload → Bool
 has_message text (Outcome status (Some given)) = bytes_eq given text
 has_message text _ = false
+
+-- the payload is an outcome with a message that contains this text
+abbrev pub message_contains : List ℕ → Payload → Bool
+message_contains text (Outcome status (Some given)) = has_within text given
+message_contains text _ = false
 
 -- the pairs have the same texts
 abbrev pub same_pair : List ℕ × List ℕ → List ℕ × List ℕ → Bool
@@ -133,6 +145,8 @@ text_atom_holds r FailedWith text e =
     of_status status.Failed e && has_message text e.event.payload
 text_atom_holds r AbortedWith text e =
     of_status status.Aborted e && has_message text e.event.payload
+text_atom_holds r Message text e =
+    of_kind kind.Finished e && message_contains text e.event.payload
 text_atom_holds r File text e = of_kind kind.File e && has_path text e.event.payload
 
 abbrev mutual
@@ -140,6 +154,8 @@ abbrev mutual
   cond_holds r (Plain bare) e = bare_holds r bare e
   cond_holds r (With text_atom text) e = text_atom_holds r text_atom text e
   cond_holds r (OfKind kind) e = of_kind kind e
+  cond_holds r (HasSegment tag value) e =
+      has_descriptor (λ d. has_segment tag value d.id) (desc r e.event.key)
   cond_holds r (HasPairs pairs) e =
       of_kind kind.Reporting e && reports (pairs_list pairs) e.event.payload
   cond_holds r (All cs) e = all_hold r cs e

@@ -4,13 +4,13 @@ ghost use Rattle.std.specs.List.{list_all, list_any};
 ghost use Rattle.tk_ids.specs.DTypes.{is_test, is_container};
 ghost use Rattle.tk_record.specs.Entries.{of_kind, of_status, desc};
 ghost use Rattle.tk_record.specs.Selections.{has_type, passes};
-ghost use Rattle.tk_query.specs.Holds.{holds, has_within, has_reason, has_path, has_message, is_engine, same_pair, all_within, reports};
+ghost use Rattle.tk_query.specs.Holds.{holds, has_within, has_reason, has_path, has_message, has_segment, is_engine, message_contains, same_pair, all_within, reports};
 ghost use Rattle.tk_query.specs.steps.Rules.{descriptor_passes, key_passes, payload_passes, rule_holds};
 ghost use Rattle.tk_record.specs.Record.{entry_of_view};
 
 use crate::rules::{DescriptorTest, PayloadTest, Rule, rule_of};
 use tk_events::{Kind, Pairs, Payload, Status};
-use tk_ids::{Descriptor, Text};
+use tk_ids::{Descriptor, Text, UniqueId};
 use tk_query_conditions::Condition;
 use tk_record::{ColumnTest, EntryView, Record};
 
@@ -74,12 +74,24 @@ fn same(text: &Text, other: &Text) -> bool
     text.as_str() == other.as_str()
 }
 
+fn has_segment(id: &UniqueId, tag: &Text, value: &Text) -> bool
+    ensures { result ≡ has_segment tag.now value.now id.now }
+{
+    for segment in id.segments().iter() {
+        if segment.tag() == tag.as_str() && segment.value() == value.as_str() {
+            return true;
+        }
+    }
+    false
+}
+
 fn descriptor_passes(test: DescriptorTest, descriptor: &Descriptor) -> bool
     ensures { result ≡ descriptor_passes test.entry descriptor.now }
 {
     match test {
         DescriptorTest::Engine => is_engine(descriptor),
         DescriptorTest::Id(text) => has_within(descriptor.id.as_text().as_str(), text.as_str()),
+        DescriptorTest::Segment(tag, value) => has_segment(&descriptor.id, tag, value),
         DescriptorTest::Name(name) => same(&descriptor.name, name),
     }
 }
@@ -121,6 +133,15 @@ fn has_message(payload: &Payload, text: &Text) -> bool
     }
 }
 
+fn message_contains(payload: &Payload, text: &Text) -> bool
+    ensures { result ≡ message_contains text.now payload.now }
+{
+    match payload {
+        Payload::Outcome(_, Some(given)) => has_within(given.as_str(), text.as_str()),
+        _ => false,
+    }
+}
+
 fn same_pair(pair: &(Text, Text), other: &(Text, Text)) -> bool
     ensures { result ≡ same_pair pair.now other.now }
 {
@@ -158,6 +179,7 @@ pub(crate) fn payload_passes(test: PayloadTest, payload: &Payload) -> bool
     match test {
         PayloadTest::Reason(text) => has_reason(payload, text),
         PayloadTest::Message(text) => has_message(payload, text),
+        PayloadTest::MessageContains(text) => message_contains(payload, text),
         PayloadTest::Path(text) => has_path(payload, text),
         PayloadTest::Report(pairs) => reports(payload, pairs),
     }

@@ -3,7 +3,7 @@ ghost use Rattle.std.specs.Prelude.{◌≡◌, IfSome};
 ghost use Rattle.tk_record.specs.Recorded.{Recorded};
 ghost use Rattle.tk_query.specs.steps.Rules.{AcceptsWithin, AllHoldWithin, HoldsWithin, IsRuleOf};
 
-use crate::rules::PayloadTest::{Message, Path, Reason, Report};
+use crate::rules::PayloadTest::{Message, MessageContains, Path, Reason, Report};
 use tk_events::{Kind, Pairs, Status};
 use tk_ids::Text;
 use tk_query_conditions::Condition;
@@ -17,6 +17,8 @@ pub(crate) enum PayloadTest<'c> {
     Reason(&'c Text),
     /// It is an outcome with this message.
     Message(&'c Text),
+    /// It is an outcome with a message that contains this text.
+    MessageContains(&'c Text),
     /// It is this path.
     Path(&'c Text),
     /// It has these pairs and no others.
@@ -30,6 +32,8 @@ pub(crate) enum DescriptorTest<'c> {
     Engine,
     /// The text of its id contains this one.
     Id(&'c Text),
+    /// One of the segments of its id has this tag and this value.
+    Segment(&'c Text, &'c Text),
     /// It has this display name.
     Name(&'c Text),
 }
@@ -56,6 +60,7 @@ pub(crate) fn rule_of(condition: &Condition) -> Rule<'_>
         Condition::Container => Rule::Column(ColumnTest::Container),
         Condition::Engine => Rule::Descriptor(DescriptorTest::Engine),
         Condition::Id(text) => Rule::Descriptor(DescriptorTest::Id(text)),
+        Condition::Segment(tag, value) => Rule::Descriptor(DescriptorTest::Segment(tag, value)),
         Condition::Name(name) => Rule::Descriptor(DescriptorTest::Name(name)),
         Condition::Kind(kind) => Rule::Column(OfKind(*kind)),
         Condition::Skipped(text) => Rule::Payload(OfKind(Kind::Skipped), Reason(text)),
@@ -65,6 +70,7 @@ pub(crate) fn rule_of(condition: &Condition) -> Rule<'_>
         Condition::Failed(Some(text)) => Rule::Payload(OfStatus(Status::Failed), Message(text)),
         Condition::Aborted(None) => Rule::Column(OfStatus(Status::Aborted)),
         Condition::Aborted(Some(text)) => Rule::Payload(OfStatus(Status::Aborted), Message(text)),
+        Condition::Message(text) => Rule::Payload(OfKind(Kind::Finished), MessageContains(text)),
         Condition::File(text) => Rule::Payload(OfKind(Kind::File), Path(text)),
         Condition::Entry(pairs) => Rule::Payload(OfKind(Kind::Reporting), Report(pairs)),
         Condition::All(_) | Condition::Any(_) | Condition::Not(_) => Rule::Members,

@@ -10,9 +10,10 @@ use Rattle.tk_query_conditions.specs.declared.partial_texts.Escape.{Escape}
 use Rattle.tk_query_conditions.specs.declared.partial_texts.Escape.TheVariants.{Outside, Percent, Digit}
 use Rattle.tk_events.specs.declared.kinds.Kind.{Kind}
 use Rattle.tk_events.specs.declared.kinds.Kind.TheVariants as event
-use Rattle.tk_query_conditions.specs.Cond.{Bare, Test, Container, Engine, Started, Succeeded, Failed, Aborted, TextAtom, Id, Name, Skipped, FailedWith, AbortedWith, File, Pairs, NoPairs, MorePairs, Cond, Plain, With, OfKind, HasPairs, All, Any, Not, Conds, Nothing, More, bare_text, text_atom_text, kind_text, spelled_by, escaped, pairs_text, pairs_lead, cond_text, list_text, lead_text}
+use Rattle.tk_query_conditions.specs.Cond.{Bare, Test, Container, Engine, Started, Succeeded, Failed, Aborted, TextAtom, Id, Name, Skipped, FailedWith, AbortedWith, Message, File, Pairs, NoPairs, MorePairs, Cond, Plain, With, OfKind, HasSegment, HasPairs, All, Any, Not, Conds, Nothing, More, bare_text, text_atom_text, kind_text, spelled_by, escaped, pairs_text, pairs_lead, cond_text, list_text, lead_text}
 use Rattle.tk_query_conditions.specs.steps.Reading.{OpenGroup, OpenNot, OpenAll, OpenAny, State}
-use Rattle.tk_query_conditions.specs.steps.Reading.{Word, InText, InKind, InPairs, After, text_step}
+use Rattle.tk_query_conditions.specs.steps.Reading.{Word, InText, InKind, InTag, InValue}
+use Rattle.tk_query_conditions.specs.steps.Reading.{InPairs, After, text_step}
 use Rattle.tk_query_conditions.specs.steps.Reading.{look, bares, close, ended, step, start}
 
 -- the machine has come to the end of the condition c, with this stack below it
@@ -69,6 +70,20 @@ in_text stack text_atom (bytes, Outside) b n41 n44 = simp (ne_eqb b 41 n41)
 in_text stack text_atom (bytes, Percent) b n41 n44 = refl
 in_text stack text_atom (bytes, Digit) b n41 n44 = refl
 
+in_tag : (stack : List OpenGroup) (partial : List ℕ × Escape) (b : ℕ) → (b ≡ 41 → ⊥)
+    → (b ≡ 44 → ⊥)
+    → step (InTag stack partial) b ≡ option_map (InTag stack) (text_step partial b)
+in_tag stack (bytes, Outside) b n41 n44 = simp (ne_eqb b 44 n44)
+in_tag stack (bytes, Percent) b n41 n44 = refl
+in_tag stack (bytes, Digit) b n41 n44 = refl
+
+in_value : (stack : List OpenGroup) (tag : List ℕ) (partial : List ℕ × Escape) (b : ℕ)
+    → (b ≡ 41 → ⊥) → (b ≡ 44 → ⊥)
+    → step (InValue stack tag partial) b ≡ option_map (InValue stack tag) (text_step partial b)
+in_value stack tag (bytes, Outside) b n41 n44 = simp (ne_eqb b 41 n41)
+in_value stack tag (bytes, Percent) b n41 n44 = refl
+in_value stack tag (bytes, Digit) b n41 n44 = refl
+
 in_pairs : (stack : List OpenGroup) (pairs : Pairs) (key : Option (List ℕ)) (partial : List ℕ × Escape) (b : ℕ) → (b ≡ 41 → ⊥) → (b ≡ 44 → ⊥) → step (InPairs stack pairs key partial) b ≡ option_map (InPairs stack pairs key) (text_step partial b)
 in_pairs stack pairs key (bytes, Outside) b n41 n44 = simp (ne_eqb b 41 n41, ne_eqb b 44 n44)
 in_pairs stack pairs key (bytes, Percent) b n41 n44 = refl
@@ -89,6 +104,7 @@ reads_text_atom Name stack = refl
 reads_text_atom Skipped stack = refl
 reads_text_atom FailedWith stack = refl
 reads_text_atom AbortedWith stack = refl
+reads_text_atom Message stack = refl
 reads_text_atom File stack = refl
 
 reads_kind : (kind : Kind) (stack : List OpenGroup) → run step (InKind stack []) (kind_text kind ++ 41 ∷ []) ≡ Some (After stack (OfKind kind))
@@ -98,6 +114,22 @@ reads_kind event.Started stack = refl
 reads_kind event.Finished stack = refl
 reads_kind event.Reporting stack = refl
 reads_kind event.File stack = refl
+
+-- a tag and a value, up to the end of the value
+reads_parts : (stack : List OpenGroup) (tag value : List ℕ)
+    → run step (InTag stack ([], Outside)) (escaped tag ++ 44 ∷ escaped value)
+    ≡ Some (InValue stack tag (value, Outside))
+reads_parts stack tag value =
+    run-append step (InTag stack ([], Outside)) (InTag stack (tag, Outside)) (escaped tag)
+    (44 ∷ escaped value) (reads_text (InTag stack) (in_tag stack) [] tag)
+    ∙ reads_text (InValue stack tag) (in_value stack tag) [] value
+
+reads_segment : (stack : List OpenGroup) (tag value : List ℕ)
+    → run step (InTag stack ([], Outside)) ((escaped tag ++ 44 ∷ escaped value) ++ 41 ∷ [])
+    ≡ Some (After stack (HasSegment tag value))
+reads_segment stack tag value =
+    run_more step (InTag stack ([], Outside)) (InValue stack tag (value, Outside))
+    (escaped tag ++ 44 ∷ escaped value) 41 (reads_parts stack tag value)
 
 -- one pair, up to the end of its value
 reads_pair : (stack : List OpenGroup) (pairs : Pairs) (key value : List ℕ) → run step (InPairs stack pairs None ([], Outside)) (escaped key ++ 44 ∷ escaped value) ≡ Some (InPairs stack pairs (Some key) (value, Outside))
@@ -135,6 +167,8 @@ closes (Word stack' (x ∷ word)) stack c e =
     [ None ↦ λ h. absurd (none-some (stack, c) h) | Some d ↦ λ h. ap (λ q. close q.0 q.1 41) (same_Some (stack', Plain d) (stack, c) h) ] e
 closes (InText _ _ _) stack c e = absurd (none-some (stack, c) e)
 closes (InKind _ _) stack c e = absurd (none-some (stack, c) e)
+closes (InTag _ _) stack c e = absurd (none-some (stack, c) e)
+closes (InValue _ _ _) stack c e = absurd (none-some (stack, c) e)
 closes (InPairs _ _ _ _) stack c e = absurd (none-some (stack, c) e)
 
 goes_on : (s : State) (stack : List OpenGroup) (c : Cond) → ended s ≡ Some (stack, c) → step s 44 ≡ close stack c 44
@@ -145,6 +179,8 @@ goes_on (Word stack' (x ∷ word)) stack c e =
     [ None ↦ λ h. absurd (none-some (stack, c) h) | Some d ↦ λ h. ap (λ q. close q.0 q.1 44) (same_Some (stack', Plain d) (stack, c) h) ] e
 goes_on (InText _ _ _) stack c e = absurd (none-some (stack, c) e)
 goes_on (InKind _ _) stack c e = absurd (none-some (stack, c) e)
+goes_on (InTag _ _) stack c e = absurd (none-some (stack, c) e)
+goes_on (InValue _ _ _) stack c e = absurd (none-some (stack, c) e)
 goes_on (InPairs _ _ _ _) stack c e = absurd (none-some (stack, c) e)
 
 -- `all(` or `any(`, as f around its members
@@ -168,6 +204,12 @@ mutual
   reads_cond (Plain bare) stack = reads_bare bare stack
   reads_cond (With text_atom text) stack = record { state = After stack (With text_atom text); came = reads_with text_atom text stack; at_end = refl }
   reads_cond (OfKind kind) stack = record { state = After stack (OfKind kind); came = reads_kind kind stack; at_end = refl }
+  reads_cond (HasSegment tag value) stack =
+      record {
+        state = After stack (HasSegment tag value);
+        came = reads_segment stack tag value;
+        at_end = refl;
+      }
   reads_cond (HasPairs pairs) stack = record { state = After stack (HasPairs pairs); came = reads_pairs stack pairs; at_end = refl }
   reads_cond (All cs) stack = record { state = After stack (All cs); came = reads_all cs stack; at_end = refl }
   reads_cond (Any cs) stack = record { state = After stack (Any cs); came = reads_any cs stack; at_end = refl }

@@ -8,9 +8,10 @@ use Rattle.tk_query_conditions.specs.declared.partial_texts.Escape.{Escape}
 use Rattle.tk_query_conditions.specs.declared.partial_texts.Escape.TheVariants.{Outside, Percent, Digit}
 use Rattle.tk_events.specs.declared.kinds.Kind.{Kind}
 use Rattle.tk_events.specs.declared.kinds.Kind.TheVariants as event
-use Rattle.tk_query_conditions.specs.Cond.{Pairs, NoPairs, MorePairs, Cond, Plain, With, OfKind, HasPairs, All, Any, Not, Nothing, More, text_atom_text, kind_text}
+use Rattle.tk_query_conditions.specs.Cond.{Pairs, NoPairs, MorePairs, Cond, Plain, With, OfKind, HasSegment, HasPairs, All, Any, Not, Nothing, More, text_atom_text, kind_text}
 use Rattle.tk_query_conditions.specs.steps.Reading.{OpenGroup, OpenNot, OpenAll, OpenAny, State}
-use Rattle.tk_query_conditions.specs.steps.Reading.{Word, InText, InKind, InPairs, After, text_step}
+use Rattle.tk_query_conditions.specs.steps.Reading.{Word, InText, InKind, InTag, InValue}
+use Rattle.tk_query_conditions.specs.steps.Reading.{InPairs, After, text_step}
 use Rattle.tk_query_conditions.specs.steps.Reading.{special_of, look, bares, all_kinds, kinds}
 use Rattle.tk_query_conditions.specs.steps.Reading.{openers, Opener, opened, close, close_empty}
 use Rattle.tk_query_conditions.specs.steps.Reading.{after_word, is_prefix, step, next_text}
@@ -28,6 +29,8 @@ abbrev pub brackets : State → List (List ℕ) × List ℕ
 brackets (Word stack word) = (words_of stack, word)
 brackets (InText stack text_atom partial) = (text_atom_text text_atom ∷ words_of stack, part_text partial)
 brackets (InKind stack word) = (codes "kind" ∷ words_of stack, word)
+brackets (InTag stack partial) = (codes "segment" ∷ words_of stack, part_text partial)
+brackets (InValue stack tag partial) = (codes "segment" ∷ words_of stack, part_text partial)
 brackets (InPairs stack pairs key partial) = (codes "entry" ∷ words_of stack, part_text partial)
 brackets (After stack c) = (words_of stack, [])
 
@@ -109,7 +112,7 @@ abbrev OpensAs : List ℕ → Opener → Type 0
 OpensAs word o = (stack : List OpenGroup) → (word ∷ words_of stack, []) ≡ brackets (opened stack o)
 
 opens_as : (word : List ℕ) (o : Opener) → look openers word ≡ Some o → OpensAs word o
-opens_as word o e = look_entry OpensAs openers word o ((λ stack. refl), ((λ stack. refl), ((λ stack. refl), ((λ stack. refl), ((λ stack. refl), ((λ stack. refl), ((λ stack. refl), ((λ stack. refl), ((λ stack. refl), ((λ stack. refl), ((λ stack. refl), tt))))))))))) e
+opens_as word o e = look_entry OpensAs openers word o ((λ stack. refl), ((λ stack. refl), ((λ stack. refl), ((λ stack. refl), ((λ stack. refl), ((λ stack. refl), ((λ stack. refl), ((λ stack. refl), ((λ stack. refl), ((λ stack. refl), ((λ stack. refl), ((λ stack. refl), ((λ stack. refl), tt))))))))))))) e
 
 -- no name of a kind has a delimiter in it
 abbrev HasNone : List ℕ → Type 0
@@ -170,6 +173,40 @@ step_brackets (InKind stack word) b t e = ⊎_elim {C = bracket_step (brackets (
     let none = last_has_none word r.0 b r.1 in
     elsewhere (codes "kind" ∷ words_of stack) word b none.0 h.0 none.1 ∙ ap brackets (same_Some (InKind stack (word ++ b ∷ [])) t w.1))
     (if_some (b == 41) (option_map (λ kind. After stack (OfKind kind)) (look kinds word)) (if is_prefix kinds (word ++ b ∷ []) then Some (InKind stack (word ++ b ∷ [])) else None) t e)
+step_brackets (InTag stack (bytes, Outside)) b t e =
+    ⊎_elim {C = bracket_step (brackets (InTag stack (bytes, Outside))) b ≡ brackets t}
+    (λ (h : ((b == 44) ≡ true) × (Some (InValue stack bytes ([], Outside)) ≡ Some t)).
+    at_comma (codes "segment" ∷ words_of stack) (part_text (bytes, Outside)) b h.0
+    ∙ ap brackets (same_Some (InValue stack bytes ([], Outside)) t h.1))
+    (λ (h : ((b == 44) ≡ false)
+    × (option_map (InTag stack) (text_step (bytes, Outside) b) ≡ Some t)).
+    inside (InTag stack) (codes "segment" ∷ words_of stack) (λ partial. refl)
+    (bytes, Outside) b t h.1)
+    (if_some (b == 44) (Some (InValue stack bytes ([], Outside)))
+    (option_map (InTag stack) (text_step (bytes, Outside) b)) t e)
+step_brackets (InTag stack (bytes, Percent)) b t e =
+    inside (InTag stack) (codes "segment" ∷ words_of stack) (λ partial. refl)
+    (bytes, Percent) b t e
+step_brackets (InTag stack (bytes, Digit)) b t e =
+    inside (InTag stack) (codes "segment" ∷ words_of stack) (λ partial. refl)
+    (bytes, Digit) b t e
+step_brackets (InValue stack tag (bytes, Outside)) b t e =
+    ⊎_elim {C = bracket_step (brackets (InValue stack tag (bytes, Outside))) b ≡ brackets t}
+    (λ (h : ((b == 41) ≡ true) × (Some (After stack (HasSegment tag bytes)) ≡ Some t)).
+    at_closing (codes "segment" ∷ words_of stack) (part_text (bytes, Outside)) b h.0
+    ∙ ap brackets (same_Some (After stack (HasSegment tag bytes)) t h.1))
+    (λ (h : ((b == 41) ≡ false)
+    × (option_map (InValue stack tag) (text_step (bytes, Outside) b) ≡ Some t)).
+    inside (InValue stack tag) (codes "segment" ∷ words_of stack) (λ partial. refl)
+    (bytes, Outside) b t h.1)
+    (if_some (b == 41) (Some (After stack (HasSegment tag bytes)))
+    (option_map (InValue stack tag) (text_step (bytes, Outside) b)) t e)
+step_brackets (InValue stack tag (bytes, Percent)) b t e =
+    inside (InValue stack tag) (codes "segment" ∷ words_of stack) (λ partial. refl)
+    (bytes, Percent) b t e
+step_brackets (InValue stack tag (bytes, Digit)) b t e =
+    inside (InValue stack tag) (codes "segment" ∷ words_of stack) (λ partial. refl)
+    (bytes, Digit) b t e
 step_brackets (InPairs stack pairs key (bytes, Outside)) b t e = ⊎_elim {C = bracket_step (brackets (InPairs stack pairs key (bytes, Outside))) b ≡ brackets t}
     (λ (h : ((b == 44) ≡ true) × (Some (next_text stack pairs key bytes) ≡ Some t)).
     at_comma (codes "entry" ∷ words_of stack) (part_text (bytes, Outside)) b h.0 ∙ next_brackets stack pairs key bytes ∙ ap brackets (same_Some (next_text stack pairs key bytes) t h.1))

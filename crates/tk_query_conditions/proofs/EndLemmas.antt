@@ -11,8 +11,8 @@ use Rattle.tk_query_conditions.specs.Cond.{Cond, Plain, bare_text, cond_text, Is
 use Rattle.tk_query_conditions.specs.CondOf.{cond_of}
 use Rattle.tk_ids.specs.Machine.{run}
 use Rattle.tk_ids.specs.Prefix.{Begins, IsLongestPrefix}
-use Rattle.tk_query_conditions.specs.steps.Reading.{OpenGroup, State, Word, InText, InKind, InPairs}
-use Rattle.tk_query_conditions.specs.steps.Reading.{After, look, bares, step, start, ended}
+use Rattle.tk_query_conditions.specs.steps.Reading.{OpenGroup, State, Word, InText, InKind}
+use Rattle.tk_query_conditions.specs.steps.Reading.{InTag, InValue, InPairs, After, look, bares, step, start, ended}
 use Rattle.tk_query_conditions.specs.declared.faults.TheConstants.{MAX_DEPTH}
 use Rattle.tk_query_conditions.specs.declared.faults.CondFault.TheVariants.{BadAtom, Deep}
 use Rattle.tk_query_conditions.proofs.CondLemmas.{reads_cond}
@@ -132,6 +132,8 @@ ended_spelled (Word stack' word) stack c e =
     ap (λ w. spelled_stack stack' ++ w) is ∙ ap (λ q. spelled_stack q.0 ++ cond_text q.1) m.2
 ended_spelled (InText _ _ _) stack c e = absurd (none-some (stack, c) e)
 ended_spelled (InKind _ _) stack c e = absurd (none-some (stack, c) e)
+ended_spelled (InTag _ _) stack c e = absurd (none-some (stack, c) e)
+ended_spelled (InValue _ _ _) stack c e = absurd (none-some (stack, c) e)
 ended_spelled (InPairs _ _ _ _) stack c e = absurd (none-some (stack, c) e)
 
 -- the text ends with a condition

@@ -10,13 +10,14 @@ use Rattle.tk_query_conditions.specs.declared.partial_texts.Escape.{Escape}
 use Rattle.tk_query_conditions.specs.declared.partial_texts.Escape.TheVariants.{Outside, Percent, Digit}
 use Rattle.tk_events.specs.declared.kinds.Kind.{Kind}
 use Rattle.tk_events.specs.declared.kinds.Kind.TheVariants as event
-use Rattle.tk_query_conditions.specs.Cond.{Test, Container, Engine, Started, Succeeded, Failed, Aborted, TextAtom, Id, Name, Skipped, FailedWith, AbortedWith, File, Pairs, NoPairs, MorePairs, Cond, Plain, With, OfKind, HasPairs, All, Any, Not, Nothing, More, bare_text, text_atom_text, kind_text, spelled_by, escaped, pairs_lead, cond_text, lead_text, IsCondText}
+use Rattle.tk_query_conditions.specs.Cond.{Test, Container, Engine, Started, Succeeded, Failed, Aborted, TextAtom, Id, Name, Skipped, FailedWith, AbortedWith, Message, File, Pairs, NoPairs, MorePairs, Cond, Plain, With, OfKind, HasSegment, HasPairs, All, Any, Not, Nothing, More, bare_text, text_atom_text, kind_text, spelled_by, escaped, pairs_lead, cond_text, lead_text, IsCondText}
 use Rattle.tk_query_conditions.specs.Reading.{begins_with}
 use Rattle.tk_query_conditions.specs.steps.Reading.{all_kinds, OpenGroup, OpenNot, OpenAll, OpenAny}
-use Rattle.tk_query_conditions.specs.steps.Reading.{State, Word, InText, InKind, InPairs, After}
+use Rattle.tk_query_conditions.specs.steps.Reading.{State, Word, InText, InKind, InTag, InValue}
+use Rattle.tk_query_conditions.specs.steps.Reading.{InPairs, After}
 use Rattle.tk_query_conditions.specs.steps.Reading.{text_step, special_of, look, bares, kinds}
-use Rattle.tk_query_conditions.specs.steps.Reading.{openers, Opener, OfText, OfKinds, OfPairs}
-use Rattle.tk_query_conditions.specs.steps.Reading.{OfAll, OfAny, OfNot, opened, close, close_empty}
+use Rattle.tk_query_conditions.specs.steps.Reading.{openers, Opener, OfText, OfKinds, OfSegment}
+use Rattle.tk_query_conditions.specs.steps.Reading.{OfPairs, OfAll, OfAny, OfNot, opened, close, close_empty}
 use Rattle.tk_query_conditions.specs.steps.Reading.{after_word, is_prefix, step, next_text}
 use Rattle.tk_query_conditions.specs.steps.Reading.{last_text}
 
@@ -42,6 +43,9 @@ abbrev pub spelled : State → List ℕ
 spelled (Word stack word) = spelled_stack stack ++ word
 spelled (InText stack text_atom partial) = spelled_stack stack ++ (text_atom_text text_atom ++ 40 ∷ part_text partial)
 spelled (InKind stack word) = spelled_stack stack ++ (codes "kind(" ++ word)
+spelled (InTag stack partial) = spelled_stack stack ++ (codes "segment(" ++ part_text partial)
+spelled (InValue stack tag partial) =
+    spelled_stack stack ++ (codes "segment(" ++ (escaped tag ++ 44 ∷ part_text partial))
 spelled (InPairs stack pairs key partial) = spelled_stack stack ++ (codes "entry(" ++ (pairs_lead pairs ++ (key_text key ++ part_text partial)))
 spelled (After stack c) = spelled_stack stack ++ cond_text c
 
@@ -197,12 +201,30 @@ opens_to : (word : List ℕ) (o : Opener) → look openers word ≡ Some o → O
 opens_to word o e = look_entry OpensTo openers word o all e
   where
     all : AllEntries OpensTo openers
-    all = ((λ stack. sym (append_assoc (spelled_stack stack) (codes "id") (40 ∷ []))), ((λ stack. sym (append_assoc (spelled_stack stack) (codes "name") (40 ∷ []))), ((λ stack. sym (append_assoc (spelled_stack stack) (codes "skipped") (40 ∷ []))), ((λ stack. sym (append_assoc (spelled_stack stack) (codes "failed") (40 ∷ []))), ((λ stack. sym (append_assoc (spelled_stack stack) (codes "aborted") (40 ∷ []))), ((λ stack. sym (append_assoc (spelled_stack stack) (codes "file") (40 ∷ []))), ((λ stack. sym (append_assoc (spelled_stack stack) (codes "kind") (40 ∷ []))), ((λ stack. sym (append_assoc (spelled_stack stack) (codes "entry") (40 ∷ []))), ((λ stack. append-nil (spelled_stack stack ++ codes "all(") ∙ sym (append_assoc (spelled_stack stack) (codes "all") (40 ∷ []))), ((λ stack. append-nil (spelled_stack stack ++ codes "any(") ∙ sym (append_assoc (spelled_stack stack) (codes "any") (40 ∷ []))), ((λ stack. append-nil (spelled_stack stack ++ codes "not(") ∙ sym (append_assoc (spelled_stack stack) (codes "not") (40 ∷ []))), tt)))))))))))
+    all = ((λ stack. sym (append_assoc (spelled_stack stack) (codes "id") (40 ∷ []))), ((λ stack. sym (append_assoc (spelled_stack stack) (codes "name") (40 ∷ []))), ((λ stack. sym (append_assoc (spelled_stack stack) (codes "skipped") (40 ∷ []))), ((λ stack. sym (append_assoc (spelled_stack stack) (codes "failed") (40 ∷ []))), ((λ stack. sym (append_assoc (spelled_stack stack) (codes "aborted") (40 ∷ []))), ((λ stack. sym (append_assoc (spelled_stack stack) (codes "message") (40 ∷ []))), ((λ stack. sym (append_assoc (spelled_stack stack) (codes "file") (40 ∷ []))), ((λ stack. sym (append_assoc (spelled_stack stack) (codes "kind") (40 ∷ []))), ((λ stack. sym (append_assoc (spelled_stack stack) (codes "segment") (40 ∷ []))), ((λ stack. sym (append_assoc (spelled_stack stack) (codes "entry") (40 ∷ []))), ((λ stack. append-nil (spelled_stack stack ++ codes "all(") ∙ sym (append_assoc (spelled_stack stack) (codes "all") (40 ∷ []))), ((λ stack. append-nil (spelled_stack stack ++ codes "any(") ∙ sym (append_assoc (spelled_stack stack) (codes "any") (40 ∷ []))), ((λ stack. append-nil (spelled_stack stack ++ codes "not(") ∙ sym (append_assoc (spelled_stack stack) (codes "not") (40 ∷ []))), tt)))))))))))))
 
 inside_text : (stack : List OpenGroup) (text_atom : TextAtom) (partial : List ℕ × Escape) (b : ℕ) (t : State) → option_map (InText stack text_atom) (text_step partial b) ≡ Some t → spelled t ≡ spelled (InText stack text_atom partial) ++ b ∷ []
 inside_text stack text_atom partial b t e =
     let m = mapped (InText stack text_atom) (text_step partial b) t e in
     ap spelled (sym m.2) ∙ ap (λ x. spelled_stack stack ++ (text_atom_text text_atom ++ 40 ∷ x)) (text_goes partial b m.0 m.1) ∙ simp append_assoc
+
+inside_tag : (stack : List OpenGroup) (partial : List ℕ × Escape) (b : ℕ) (t : State)
+    → option_map (InTag stack) (text_step partial b) ≡ Some t
+    → spelled t ≡ spelled (InTag stack partial) ++ b ∷ []
+inside_tag stack partial b t e =
+    let m = mapped (InTag stack) (text_step partial b) t e in
+    ap spelled (sym m.2)
+    ∙ ap (λ x. spelled_stack stack ++ (codes "segment(" ++ x)) (text_goes partial b m.0 m.1)
+    ∙ simp append_assoc
+
+inside_value : (stack : List OpenGroup) (tag : List ℕ) (partial : List ℕ × Escape) (b : ℕ)
+    (t : State) → option_map (InValue stack tag) (text_step partial b) ≡ Some t
+    → spelled t ≡ spelled (InValue stack tag partial) ++ b ∷ []
+inside_value stack tag partial b t e =
+    let m = mapped (InValue stack tag) (text_step partial b) t e in
+    ap spelled (sym m.2)
+    ∙ ap (λ x. spelled_stack stack ++ (codes "segment(" ++ (escaped tag ++ 44 ∷ x)))
+    (text_goes partial b m.0 m.1) ∙ simp append_assoc
 
 inside_pairs : (stack : List OpenGroup) (pairs : Pairs) (key : Option (List ℕ)) (partial : List ℕ × Escape) (b : ℕ) (t : State) → option_map (InPairs stack pairs key) (text_step partial b) ≡ Some t → spelled t ≡ spelled (InPairs stack pairs key partial) ++ b ∷ []
 inside_pairs stack pairs key partial b t e =
@@ -250,6 +272,35 @@ step_goes (InKind stack word) b t e = ⊎_elim {C = spelled t ≡ spelled (InKin
     let w = guarded (is_prefix kinds (word ++ b ∷ [])) (Some (InKind stack (word ++ b ∷ []))) t h.1 in
     ap spelled (sym (same_Some (InKind stack (word ++ b ∷ [])) t w.1)) ∙ simp append_assoc)
     (if_some (b == 41) (option_map (λ kind. After stack (OfKind kind)) (look kinds word)) (if is_prefix kinds (word ++ b ∷ []) then Some (InKind stack (word ++ b ∷ [])) else None) t e)
+step_goes (InTag stack (bytes, Outside)) b t e =
+    ⊎_elim {C = spelled t ≡ spelled (InTag stack (bytes, Outside)) ++ b ∷ []}
+    (λ (h : ((b == 44) ≡ true) × (Some (InValue stack bytes ([], Outside)) ≡ Some t)).
+    ap spelled (sym (same_Some (InValue stack bytes ([], Outside)) t h.1))
+    ∙ simp (append_assoc, append-nil)
+    (ap (λ x. spelled_stack stack ++ (codes "segment(" ++ (escaped bytes ++ x ∷ [])))
+    (sym (eqb-true b 44 h.0))))
+    (λ (h : ((b == 44) ≡ false)
+    × (option_map (InTag stack) (text_step (bytes, Outside) b) ≡ Some t)).
+    inside_tag stack (bytes, Outside) b t h.1)
+    (if_some (b == 44) (Some (InValue stack bytes ([], Outside)))
+    (option_map (InTag stack) (text_step (bytes, Outside) b)) t e)
+step_goes (InTag stack (bytes, Percent)) b t e = inside_tag stack (bytes, Percent) b t e
+step_goes (InTag stack (bytes, Digit)) b t e = inside_tag stack (bytes, Digit) b t e
+step_goes (InValue stack tag (bytes, Outside)) b t e =
+    ⊎_elim {C = spelled t ≡ spelled (InValue stack tag (bytes, Outside)) ++ b ∷ []}
+    (λ (h : ((b == 41) ≡ true) × (Some (After stack (HasSegment tag bytes)) ≡ Some t)).
+    ap spelled (sym (same_Some (After stack (HasSegment tag bytes)) t h.1))
+    ∙ simp (append_assoc, append-nil)
+    (ap (λ x. spelled_stack stack
+    ++ (codes "segment(" ++ (escaped tag ++ 44 ∷ (escaped bytes ++ x ∷ []))))
+    (sym (eqb-true b 41 h.0))))
+    (λ (h : ((b == 41) ≡ false)
+    × (option_map (InValue stack tag) (text_step (bytes, Outside) b) ≡ Some t)).
+    inside_value stack tag (bytes, Outside) b t h.1)
+    (if_some (b == 41) (Some (After stack (HasSegment tag bytes)))
+    (option_map (InValue stack tag) (text_step (bytes, Outside) b)) t e)
+step_goes (InValue stack tag (bytes, Percent)) b t e = inside_value stack tag (bytes, Percent) b t e
+step_goes (InValue stack tag (bytes, Digit)) b t e = inside_value stack tag (bytes, Digit) b t e
 step_goes (InPairs stack pairs key (bytes, Outside)) b t e = ⊎_elim {C = spelled t ≡ spelled (InPairs stack pairs key (bytes, Outside)) ++ b ∷ []}
     (λ (h : ((b == 44) ≡ true) × (Some (next_text stack pairs key bytes) ≡ Some t)).
     ap spelled (sym (same_Some (next_text stack pairs key bytes) t h.1)) ∙ next_goes stack pairs key bytes ∙ ap (λ x. spelled (InPairs stack pairs key (bytes, Outside)) ++ x ∷ []) (sym (eqb-true b 44 h.0)))
@@ -267,6 +318,8 @@ abbrev pub IsSound : State → Type 0
 IsSound (Word stack word) = (is_prefix bares word || is_prefix openers word) ≡ true
 IsSound (InKind stack word) = is_prefix kinds word ≡ true
 IsSound (InText stack text_atom partial) = Unit {0}
+IsSound (InTag stack partial) = Unit {0}
+IsSound (InValue stack tag partial) = Unit {0}
 IsSound (InPairs stack pairs key partial) = Unit {0}
 IsSound (After stack c) = Unit {0}
 
@@ -301,6 +354,7 @@ after_sound stack (x ∷ word) b t e =
 opened_sound : (stack : List OpenGroup) (o : Opener) → IsSound (opened stack o)
 opened_sound stack (OfText text_atom) = tt
 opened_sound stack OfKinds = refl
+opened_sound stack OfSegment = tt
 opened_sound stack OfPairs = tt
 opened_sound stack OfAll = refl
 opened_sound stack OfAny = refl
@@ -343,6 +397,30 @@ step_sound (InKind stack word) b t e = ⊎_elim {C = IsSound t}
     let w = guarded (is_prefix kinds (word ++ b ∷ [])) (Some (InKind stack (word ++ b ∷ []))) t h.1 in
     subst IsSound (same_Some (InKind stack (word ++ b ∷ [])) t w.1) w.0)
     (if_some (b == 41) (option_map (λ kind. After stack (OfKind kind)) (look kinds word)) (if is_prefix kinds (word ++ b ∷ []) then Some (InKind stack (word ++ b ∷ [])) else None) t e)
+step_sound (InTag stack (bytes, Outside)) b t e = ⊎_elim {C = IsSound t}
+    (λ (h : ((b == 44) ≡ true) × (Some (InValue stack bytes ([], Outside)) ≡ Some t)).
+    subst IsSound (same_Some (InValue stack bytes ([], Outside)) t h.1) tt)
+    (λ (h : ((b == 44) ≡ false)
+    × (option_map (InTag stack) (text_step (bytes, Outside) b) ≡ Some t)).
+    text_sound (InTag stack) (λ partial. tt) (text_step (bytes, Outside) b) t h.1)
+    (if_some (b == 44) (Some (InValue stack bytes ([], Outside)))
+    (option_map (InTag stack) (text_step (bytes, Outside) b)) t e)
+step_sound (InTag stack (bytes, Percent)) b t e =
+    text_sound (InTag stack) (λ partial. tt) (text_step (bytes, Percent) b) t e
+step_sound (InTag stack (bytes, Digit)) b t e =
+    text_sound (InTag stack) (λ partial. tt) (text_step (bytes, Digit) b) t e
+step_sound (InValue stack tag (bytes, Outside)) b t e = ⊎_elim {C = IsSound t}
+    (λ (h : ((b == 41) ≡ true) × (Some (After stack (HasSegment tag bytes)) ≡ Some t)).
+    subst IsSound (same_Some (After stack (HasSegment tag bytes)) t h.1) tt)
+    (λ (h : ((b == 41) ≡ false)
+    × (option_map (InValue stack tag) (text_step (bytes, Outside) b) ≡ Some t)).
+    text_sound (InValue stack tag) (λ partial. tt) (text_step (bytes, Outside) b) t h.1)
+    (if_some (b == 41) (Some (After stack (HasSegment tag bytes)))
+    (option_map (InValue stack tag) (text_step (bytes, Outside) b)) t e)
+step_sound (InValue stack tag (bytes, Percent)) b t e =
+    text_sound (InValue stack tag) (λ partial. tt) (text_step (bytes, Percent) b) t e
+step_sound (InValue stack tag (bytes, Digit)) b t e =
+    text_sound (InValue stack tag) (λ partial. tt) (text_step (bytes, Digit) b) t e
 step_sound (InPairs stack pairs key (bytes, Outside)) b t e = ⊎_elim {C = IsSound t}
     (λ (h : ((b == 44) ≡ true) × (Some (next_text stack pairs key bytes) ≡ Some t)). subst IsSound (same_Some (next_text stack pairs key bytes) t h.1) (next_sound stack pairs key bytes))
     (λ (h : ((b == 44) ≡ false) × ((if b == 41 then last_text stack pairs key bytes else option_map (InPairs stack pairs key) (text_step (bytes, Outside) b)) ≡ Some t)).
@@ -394,7 +472,7 @@ pub begins : (s : State) → IsSound s → Begins IsCondText (spelled s)
 begins (After stack c) h = completes stack c
 begins (Word stack word) h = ⊎_elim {C = Begins IsCondText (spelled_stack stack ++ word)}
     (λ (f : is_prefix bares word ≡ true). prefix_begins stack word (prefix_entry BeginsCond bares word (([], Plain Test, refl), (([], Plain Container, refl), (([], Plain Engine, refl), (([], Plain Started, refl), (([], Plain Succeeded, refl), (([], Plain Failed, refl), (([], Plain Aborted, refl), tt))))))) f))
-    (λ (f : is_prefix openers word ≡ true). prefix_begins stack word (prefix_entry BeginsCond openers word ((codes "()", With Id [], refl), ((codes "()", With Name [], refl), ((codes "()", With Skipped [], refl), ((codes "()", With FailedWith [], refl), ((codes "()", With AbortedWith [], refl), ((codes "()", With File [], refl), ((codes "(skip)", OfKind event.Skipped, refl), ((codes "()", HasPairs NoPairs, refl), ((codes "()", All Nothing, refl), ((codes "()", Any Nothing, refl), ((codes "(test)", Not (Plain Test), refl), tt))))))))))) f))
+    (λ (f : is_prefix openers word ≡ true). prefix_begins stack word (prefix_entry BeginsCond openers word ((codes "()", With Id [], refl), ((codes "()", With Name [], refl), ((codes "()", With Skipped [], refl), ((codes "()", With FailedWith [], refl), ((codes "()", With AbortedWith [], refl), ((codes "()", With Message [], refl), ((codes "()", With File [], refl), ((codes "(skip)", OfKind event.Skipped, refl), ((codes "(,)", HasSegment [] [], refl), ((codes "()", HasPairs NoPairs, refl), ((codes "()", All Nothing, refl), ((codes "()", Any Nothing, refl), ((codes "(test)", Not (Plain Test), refl), tt))))))))))))) f))
     (or_cases (is_prefix bares word) (is_prefix openers word) h)
 begins (InKind stack word) h =
     let r = prefix_entry (λ text. (kind : Kind) × (kind_text kind ≡ text)) kinds word (each_kind (λ text kind. (k : Kind) × (kind_text k ≡ text)) (λ kind. (kind, refl)) all_kinds) h in
@@ -402,6 +480,17 @@ begins (InKind stack word) h =
 begins (InText stack text_atom partial) h =
     let f = part_finishes partial in
     completes_prefix stack (With text_atom f.1) (text_atom_text text_atom ++ 40 ∷ part_text partial) (f.0 ++ 41 ∷ []) (ap (λ x. text_atom_text text_atom ++ 40 ∷ x ++ 41 ∷ []) f.2 ∙ simp append_assoc)
+begins (InTag stack partial) h =
+    let f = part_finishes partial in
+    completes_prefix stack (HasSegment f.1 []) (codes "segment(" ++ part_text partial)
+    (f.0 ++ 44 ∷ 41 ∷ [])
+    (ap (λ x. codes "segment(" ++ (x ++ 44 ∷ []) ++ 41 ∷ []) f.2 ∙ simp append_assoc)
+begins (InValue stack tag partial) h =
+    let f = part_finishes partial in
+    completes_prefix stack (HasSegment tag f.1)
+    (codes "segment(" ++ (escaped tag ++ 44 ∷ part_text partial)) (f.0 ++ 41 ∷ [])
+    (ap (λ x. codes "segment(" ++ (escaped tag ++ 44 ∷ x) ++ 41 ∷ []) f.2
+    ∙ simp append_assoc)
 begins (InPairs stack pairs None partial) h =
     let f = part_finishes partial in
     completes_prefix stack (HasPairs (MorePairs pairs f.1 [])) (codes "entry(" ++ (pairs_lead pairs ++ ([] ++ part_text partial))) (f.0 ++ 44 ∷ 41 ∷ [])

@@ -12,7 +12,7 @@ use Rattle.tk_query_conditions.specs.declared.conditions.Condition.{Condition}
 use Rattle.tk_query_conditions.specs.declared.open_groups.OpenGroup as group
 use Rattle.tk_query_conditions.specs.declared.open_groups.OpenGroup.TheVariants as groups
 use Rattle.tk_query_conditions.specs.Brackets.{is_group}
-use Rattle.tk_query_conditions.specs.Cond.{Cond, Plain, With, OfKind, HasPairs, All, Any, Not, Conds, Nothing, More, Pairs, NoPairs, MorePairs, TextAtom, Id, Name, Skipped, FailedWith, AbortedWith, File, text_atom_text, kind_text}
+use Rattle.tk_query_conditions.specs.Cond.{Cond, Plain, With, OfKind, HasSegment, HasPairs, All, Any, Not, Conds, Nothing, More, Pairs, NoPairs, MorePairs, TextAtom, Id, Name, Skipped, FailedWith, AbortedWith, Message, File, text_atom_text, kind_text}
 use Rattle.tk_query_conditions.specs.CondOf.{cond_of, pairs_from}
 use Rattle.tk_query_conditions.specs.steps.CondOf.{conds_from}
 use Rattle.tk_query_conditions.specs.steps.Reader.{group_of, groups_from, groups_of, depth_of}
@@ -20,10 +20,11 @@ use Rattle.tk_query_conditions.specs.steps.Reader.{rest_of, state_at, state_of, 
 use Rattle.tk_query_conditions.specs.steps.Reader.{CanContinue}
 use Rattle.tk_query_conditions.specs.Reading.{begins_with}
 use Rattle.tk_query_conditions.specs.steps.Reading.{OpenGroup, OpenNot, OpenAll, OpenAny, State}
-use Rattle.tk_query_conditions.specs.steps.Reading.{Word, InText, InKind, InPairs, After, look}
+use Rattle.tk_query_conditions.specs.steps.Reading.{Word, InText, InKind, InTag, InValue}
+use Rattle.tk_query_conditions.specs.steps.Reading.{InPairs, After, look}
 use Rattle.tk_query_conditions.specs.steps.Reading.{is_prefix, all_kinds, kinds, close, close_empty}
 use Rattle.tk_query_conditions.specs.steps.Reading.{closed, closed_empty, joined, Opener, OfText}
-use Rattle.tk_query_conditions.specs.steps.Reading.{OfKinds, OfPairs, OfAll, OfAny, OfNot, opened}
+use Rattle.tk_query_conditions.specs.steps.Reading.{OfKinds, OfSegment, OfPairs, OfAll, OfAny, OfNot, opened}
 use Rattle.tk_query_conditions.specs.steps.Reading.{after_word, bares, openers, special_of}
 use Rattle.tk_query_conditions.specs.steps.Reading.{text_step, ends_at, next_text, last_text, step}
 use Rattle.tk_query_conditions.specs.steps.Reading.{start, ended}
@@ -126,6 +127,7 @@ no_group Name = refl
 no_group Skipped = refl
 no_group FailedWith = refl
 no_group AbortedWith = refl
+no_group Message = refl
 no_group File = refl
 
 pub height_is : (s : State) → height s ≡ depth_of s
@@ -133,6 +135,8 @@ height_is (Word stack word) = stack_height stack
 height_is (InText stack text_atom partial) =
     count_more 0 (text_atom_text text_atom) (words_of stack) ∙ ap (λ b. (if b then 1 else 0) + count_by is_group (words_of stack)) (no_group text_atom) ∙ zero-add (count_by is_group (words_of stack)) ∙ stack_height stack
 height_is (InKind stack word) = stack_height stack
+height_is (InTag stack partial) = stack_height stack
+height_is (InValue stack tag partial) = stack_height stack
 height_is (InPairs stack pairs key partial) = stack_height stack
 height_is (After stack c) = stack_height stack
 
@@ -147,6 +151,8 @@ pub depth_at : (stack : List OpenGroup) (position : Position) → depth_of (stat
 depth_at stack (positions.Word word) = refl
 depth_at stack (positions.Text text_atom partial) = refl
 depth_at stack (positions.Kind word) = refl
+depth_at stack (positions.Tag partial) = refl
+depth_at stack (positions.Value tag partial) = refl
 depth_at stack (positions.Pairs pairs) = refl
 depth_at stack (positions.After c) = refl
 
@@ -159,6 +165,8 @@ ended_depth (Word stack word) c e = let m = mapped (λ bare. (stack, Plain bare)
 ended_depth (After stack d) c e = ap (λ q. length q.0) (same_Some (stack, d) ([], c) e)
 ended_depth (InText stack text_atom partial) c e = absurd (none-some ([], c) e)
 ended_depth (InKind stack word) c e = absurd (none-some ([], c) e)
+ended_depth (InTag stack partial) c e = absurd (none-some ([], c) e)
+ended_depth (InValue stack tag partial) c e = absurd (none-some ([], c) e)
 ended_depth (InPairs stack pairs key partial) c e = absurd (none-some ([], c) e)
 
 -- a row of the table of kinds that isn't the word's
@@ -287,6 +295,8 @@ ended_part (bytes, Digit) stop b lt e u = cc
 -- the text that a state is in, and what follows
 abbrev pub Keeps : State → List ℕ → Type 0
 Keeps (InText stack text_atom partial) rest = KeepsPart partial rest
+Keeps (InTag stack partial) rest = KeepsPart partial rest
+Keeps (InValue stack tag partial) rest = KeepsPart partial rest
 Keeps (InPairs stack pairs key partial) rest = KeepsPart partial rest
 Keeps (Word stack word) rest = Unit {0}
 Keeps (InKind stack word) rest = Unit {0}
@@ -318,6 +328,7 @@ after_keeps stack (x ∷ word) b t rest e =
 opened_keeps : (stack : List OpenGroup) (o : Opener) (rest : List ℕ) → IsUtf8 rest → Keeps (opened stack o) rest
 opened_keeps stack (OfText text_atom) rest u = u
 opened_keeps stack OfKinds rest u = tt
+opened_keeps stack OfSegment rest u = u
 opened_keeps stack OfPairs rest u = u
 opened_keeps stack OfAll rest u = tt
 opened_keeps stack OfAny rest u = tt
@@ -337,6 +348,12 @@ mapped_keeps : (k : List ℕ × Escape → State) → ((partial : List ℕ × Es
 mapped_keeps k all p b t rest u e =
     let m = mapped k (text_step p b) t e in
     subst (λ s. Keeps s rest) m.2 (all m.0 rest (part_keeps p m.0 b rest u m.1))
+
+-- a byte that ends a text is below 128
+stop_ascii : (p : List ℕ × Escape) (b stop : ℕ) → stop < 128 → ends_at stop p b ≡ true → b < 128
+stop_ascii (bytes, Outside) b stop lt e = let at = eqb-true b stop e in omega arith
+stop_ascii (bytes, Percent) b stop lt e = cc
+stop_ascii (bytes, Digit) b stop lt e = cc
 
 -- one more step, one more byte
 pub step_keeps : (s : State) (b : ℕ) (t : State) (rest : List ℕ) → (b < 128 → IsUtf8 rest) → Keeps s (b ∷ rest) → step s b ≡ Some t → Keeps t rest
@@ -365,6 +382,25 @@ step_keeps (InKind stack word) b t rest after u e = ⊎_elim {C = Keeps t rest}
     let w = guarded (is_prefix kinds (word ++ b ∷ [])) (Some (InKind stack (word ++ b ∷ []))) t h.1 in
     subst (λ s. Keeps s rest) (same_Some (InKind stack (word ++ b ∷ [])) t w.1) tt)
     (if_some (b == 41) (option_map (λ kind. After stack (OfKind kind)) (look kinds word)) (if is_prefix kinds (word ++ b ∷ []) then Some (InKind stack (word ++ b ∷ [])) else None) t e)
+step_keeps (InTag stack partial) b t rest after u e = ⊎_elim {C = Keeps t rest}
+    (λ (h : (ends_at 44 partial b ≡ true)
+    × (Some (InValue stack partial.0 ([], Outside)) ≡ Some t)).
+    subst (λ s. Keeps s rest) (same_Some (InValue stack partial.0 ([], Outside)) t h.1)
+    (after (stop_ascii partial b 44 (omega arith) h.0)))
+    (λ (h : (ends_at 44 partial b ≡ false)
+    × (option_map (InTag stack) (text_step partial b) ≡ Some t)).
+    mapped_keeps (InTag stack) (λ p r v. v) partial b t rest u h.1)
+    (if_some (ends_at 44 partial b) (Some (InValue stack partial.0 ([], Outside)))
+    (option_map (InTag stack) (text_step partial b)) t e)
+step_keeps (InValue stack tag partial) b t rest after u e = ⊎_elim {C = Keeps t rest}
+    (λ (h : (ends_at 41 partial b ≡ true)
+    × (Some (After stack (HasSegment tag partial.0)) ≡ Some t)).
+    subst (λ s. Keeps s rest) (same_Some (After stack (HasSegment tag partial.0)) t h.1) tt)
+    (λ (h : (ends_at 41 partial b ≡ false)
+    × (option_map (InValue stack tag) (text_step partial b) ≡ Some t)).
+    mapped_keeps (InValue stack tag) (λ p r v. v) partial b t rest u h.1)
+    (if_some (ends_at 41 partial b) (Some (After stack (HasSegment tag partial.0)))
+    (option_map (InValue stack tag) (text_step partial b)) t e)
 step_keeps (InPairs stack pairs key partial) b t rest after u e = ⊎_elim {C = Keeps t rest}
     (λ (h : (ends_at 44 partial b ≡ true) × (Some (next_text stack pairs key partial.0) ≡ Some t)).
     subst (λ s. Keeps s rest) (same_Some (next_text stack pairs key partial.0) t h.1) (next_keeps stack pairs key partial.0 rest (after (stop_ascii partial b 44 (omega arith) h.0))))
@@ -374,11 +410,6 @@ step_keeps (InPairs stack pairs key partial) b t rest after u e = ⊎_elim {C = 
     (λ (g : (ends_at 41 partial b ≡ false) × (option_map (InPairs stack pairs key) (text_step partial b) ≡ Some t)). mapped_keeps (InPairs stack pairs key) (λ p r v. v) partial b t rest u g.1)
     (if_some (ends_at 41 partial b) (last_text stack pairs key partial.0) (option_map (InPairs stack pairs key) (text_step partial b)) t h.1))
     (if_some (ends_at 44 partial b) (Some (next_text stack pairs key partial.0)) (if ends_at 41 partial b then last_text stack pairs key partial.0 else option_map (InPairs stack pairs key) (text_step partial b)) t e)
-  where
-    stop_ascii : (p : List ℕ × Escape) (b stop : ℕ) → stop < 128 → ends_at stop p b ≡ true → b < 128
-    stop_ascii (bytes, Outside) b stop lt e = let at = eqb-true b stop e in omega arith
-    stop_ascii (bytes, Percent) b stop lt e = cc
-    stop_ascii (bytes, Digit) b stop lt e = cc
 
 -- what the loop has at byte n: the machine's state, and that the text that is read is UTF-8
 pub record IsRead (text : List ℕ) (n : ℕ) (s : State) : Type 0 where
@@ -391,6 +422,10 @@ read_none text u = record { has = reads_none text; utf8 = u; keeps = tt }
 
 pub read_goes : (text : List ℕ) (n : ℕ) (s : State) → IsRead text n s → n < length text → CanContinue s (get_or text n 0)
 read_goes text n (InText stack text_atom partial) h lt = (drop (n + 1) text, subst (KeepsPart partial) (drop_more text n 0 lt) h.keeps)
+read_goes text n (InTag stack partial) h lt =
+    (drop (n + 1) text, subst (KeepsPart partial) (drop_more text n 0 lt) h.keeps)
+read_goes text n (InValue stack tag partial) h lt =
+    (drop (n + 1) text, subst (KeepsPart partial) (drop_more text n 0 lt) h.keeps)
 read_goes text n (InPairs stack pairs key partial) h lt = (drop (n + 1) text, subst (KeepsPart partial) (drop_more text n 0 lt) h.keeps)
 read_goes text n (Word stack word) h lt = tt
 read_goes text n (InKind stack word) h lt = tt

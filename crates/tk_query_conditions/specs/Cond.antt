@@ -21,6 +21,7 @@ pub data TextAtom : Type 0 where
   Skipped : TextAtom
   FailedWith : TextAtom
   AbortedWith : TextAtom
+  Message : TextAtom
   File : TextAtom
 
 -- pairs of texts, the last one outermost
@@ -34,6 +35,8 @@ mutual
     Plain : Bare → Cond
     With : TextAtom → List ℕ → Cond
     OfKind : Kind → Cond
+    -- a segment with this tag and this value
+    HasSegment : List ℕ → List ℕ → Cond
     HasPairs : Pairs → Cond
     All : Conds → Cond
     Any : Conds → Cond
@@ -61,6 +64,7 @@ text_atom_text Name = codes "name"
 text_atom_text Skipped = codes "skipped"
 text_atom_text FailedWith = codes "failed"
 text_atom_text AbortedWith = codes "aborted"
+text_atom_text Message = codes "message"
 text_atom_text File = codes "file"
 
 -- the name of a kind: its word
@@ -101,6 +105,8 @@ abbrev mutual
   cond_text (With text_atom text) =
       text_atom_text text_atom ++ opening_bracket ∷ escaped text ++ closing_bracket ∷ []
   cond_text (OfKind kind) = codes "kind(" ++ kind_text kind ++ closing_bracket ∷ []
+  cond_text (HasSegment tag value) =
+      codes "segment(" ++ (escaped tag ++ comma ∷ escaped value) ++ closing_bracket ∷ []
   cond_text (HasPairs pairs) = codes "entry(" ++ pairs_text pairs ++ closing_bracket ∷ []
   cond_text (All cs) = codes "all(" ++ list_text cs ++ closing_bracket ∷ []
   cond_text (Any cs) = codes "any(" ++ list_text cs ++ closing_bracket ∷ []

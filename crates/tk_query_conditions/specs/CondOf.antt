@@ -23,6 +23,7 @@ use Rattle.tk_query_conditions.specs.Cond.{
   Skipped,
   FailedWith,
   AbortedWith,
+  Message,
   File,
   Pairs,
   NoPairs,
@@ -31,6 +32,7 @@ use Rattle.tk_query_conditions.specs.Cond.{
   Plain,
   With,
   OfKind,
+  HasSegment,
   HasPairs,
   All,
   Any,
@@ -51,6 +53,7 @@ abbrev mutual
   cond_of real.Container = Plain Container
   cond_of real.Engine = Plain Engine
   cond_of (real.Id text) = With Id text
+  cond_of (real.Segment tag value) = HasSegment tag value
   cond_of (real.Name text) = With Name text
   cond_of (real.Kind kind) = OfKind kind
   cond_of (real.Skipped text) = With Skipped text
@@ -60,6 +63,7 @@ abbrev mutual
   cond_of (real.Failed (Some text)) = With FailedWith text
   cond_of (real.Aborted None) = Plain Aborted
   cond_of (real.Aborted (Some text)) = With AbortedWith text
+  cond_of (real.Message text) = With Message text
   cond_of (real.File text) = With File text
   cond_of (real.Entry pairs) = HasPairs (pairs_from NoPairs pairs)
   cond_of (All' shape row) = All (row_from Nothing row)

@@ -21,6 +21,8 @@ pub enum Condition {
     Id(Text),
     /// Its descriptor has this display name.
     Name(Text),
+    /// One of the segments of its descriptor's id has this tag and this value.
+    Segment(Text, Text),
     /// It is of this kind.
     Kind(Kind),
     /// It is skipped for this reason.
@@ -33,6 +35,8 @@ pub enum Condition {
     Failed(Option<Text>),
     /// It finished as aborted, and with this message where one is named.
     Aborted(Option<Text>),
+    /// It finished with a message that contains this text.
+    Message(Text),
     /// It publishes the file that lies at this path.
     File(Text),
     /// It reports these pairs and no others.
@@ -202,5 +206,33 @@ impl Condition {
         ensures { IfOk result (λ condition. condition ≡ Condition.File path.now) }
     {
         Ok(Condition::File(Text::copy(alloc, path)?))
+    }
+}
+
+/// Constructors of the conditions that JUnit's `EventConditions` has no name for.
+impl Condition {
+    /// One of the segments of the descriptor's id has this tag and this value, both whole and
+    /// without escapes.
+    ///
+    /// So it holds of the events of the descriptor with this last segment, and of all below it.
+    ///
+    /// # Errors
+    /// `AllocError` where a request for memory is refused.
+    pub fn segment(alloc: Global, tag: &str, value: &str) -> Result<Condition, AllocError>
+        ensures { IfOk result (λ condition. condition ≡ Condition.Segment tag.now value.now) }
+    {
+        let tag = Text::copy(alloc, tag)?;
+        let value = Text::copy(alloc, value)?;
+        Ok(Condition::Segment(tag, value))
+    }
+
+    /// The execution finished with a message that contains this text, whatever its status.
+    ///
+    /// # Errors
+    /// `AllocError` where a request for memory is refused.
+    pub fn message_contains(alloc: Global, text: &str) -> Result<Condition, AllocError>
+        ensures { IfOk result (λ condition. condition ≡ Condition.Message text.now) }
+    {
+        Ok(Condition::Message(Text::copy(alloc, text)?))
     }
 }

@@ -3,7 +3,7 @@ ghost use Rattle.std.specs.Prelude.{◌≡◌, [], ◌∷◌, IfOk, option_map, 
 ghost use Rattle.tk_query_conditions.specs.Cond.{Cond, NoPairs, Plain};
 ghost use Rattle.tk_query_conditions.specs.CondOf.{cond_of, pairs_from};
 ghost use Rattle.tk_query_conditions.specs.steps.Reader.{group_of, groups_of, text_atom_of, opener_of, in_pairs, state_of, depth_of, ContinuesAsText, CanContinue};
-ghost use Rattle.tk_query_conditions.specs.steps.Reading.{Word, InText, InKind, InPairs, After, start, step, close, close_empty, after_word, opened, next_text, last_text, ended, look};
+ghost use Rattle.tk_query_conditions.specs.steps.Reading.{Word, InText, InKind, InTag, InValue, InPairs, After, start, step, close, close_empty, after_word, opened, next_text, last_text, ended, look};
 
 use crate::conditions::Condition;
 use crate::open_groups::OpenGroup;
@@ -35,6 +35,10 @@ pub(crate) enum Position {
     Text(TextAtom, PartialText),
     /// In the name of a kind.
     Kind(Vec<u8>),
+    /// In the tag of a segment.
+    Tag(PartialText),
+    /// In the value of a segment, after its tag.
+    Value(Text, PartialText),
     /// In the pairs of an entry.
     Pairs(PartialPairs),
     /// After a condition.
@@ -139,6 +143,10 @@ fn after_opener(alloc: Global, stack: Vec<OpenGroup>, opener: Opener) -> NextRea
             stack,
             position: Position::Kind(Vec::new(alloc)),
         })),
+        Opener::Segment => Ok(Some(Reader {
+            stack,
+            position: Position::Tag(PartialText::new(alloc)),
+        })),
         Opener::Entry => Ok(Some(Reader {
             stack,
             position: Position::Pairs(PartialPairs {
@@ -218,6 +226,45 @@ fn feed_kind(stack: Vec<OpenGroup>, mut word: Vec<u8>, byte: u8) -> NextReader
         Ok(Some(Reader {
             stack,
             position: Position::Kind(word),
+        }))
+    } else {
+        Ok(None)
+    }
+}
+
+/// Reads a byte in the tag of a segment.
+fn feed_tag(alloc: Global, stack: Vec<OpenGroup>, mut partial: PartialText, byte: u8) -> NextReader
+    requires text { ContinuesAsText partial byte }
+    ensures { IfOk result (λ next.
+        step (InTag (groups_of stack.items) partial) byte ≡ option_map state_of next) }
+{
+    if partial.ends(b',', byte) {
+        Ok(Some(Reader {
+            stack,
+            position: Position::Value(partial.into_text(), PartialText::new(alloc)),
+        }))
+    } else if partial.feed(byte)? {
+        Ok(Some(Reader {
+            stack,
+            position: Position::Tag(partial),
+        }))
+    } else {
+        Ok(None)
+    }
+}
+
+/// Reads a byte in the value of a segment.
+fn feed_value(stack: Vec<OpenGroup>, tag: Text, mut partial: PartialText, byte: u8) -> NextReader
+    requires text { ContinuesAsText partial byte }
+    ensures { IfOk result (λ next.
+        step (InValue (groups_of stack.items) tag partial) byte ≡ option_map state_of next) }
+{
+    if partial.ends(b')', byte) {
+        Ok(Some(after(stack, Condition::Segment(tag, partial.into_text()))))
+    } else if partial.feed(byte)? {
+        Ok(Some(Reader {
+            stack,
+            position: Position::Value(tag, partial),
         }))
     } else {
         Ok(None)
@@ -331,6 +378,8 @@ impl Reader {
             Position::Word(word) => feed_word(alloc, stack, word, byte),
             Position::Text(text_atom, partial) => feed_text(stack, text_atom, partial, byte),
             Position::Kind(word) => feed_kind(stack, word, byte),
+            Position::Tag(partial) => feed_tag(alloc, stack, partial, byte),
+            Position::Value(tag, partial) => feed_value(stack, tag, partial, byte),
             Position::Pairs(pairs) => feed_pairs(alloc, stack, pairs, byte),
             Position::After(condition) => close(alloc, stack, condition, byte),
         }

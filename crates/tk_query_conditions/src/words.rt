@@ -18,6 +18,7 @@ pub(crate) enum TextAtom {
     Skipped,
     Failed,
     Aborted,
+    Message,
     File,
 }
 
@@ -32,6 +33,7 @@ impl TextAtom {
             TextAtom::Skipped => Condition::Skipped(text),
             TextAtom::Failed => Condition::Failed(Some(text)),
             TextAtom::Aborted => Condition::Aborted(Some(text)),
+            TextAtom::Message => Condition::Message(text),
             TextAtom::File => Condition::File(text),
         }
     }
@@ -42,6 +44,7 @@ impl TextAtom {
 pub(crate) enum Opener {
     Text(TextAtom),
     Kind,
+    Segment,
     Entry,
     All,
     Any,
@@ -114,10 +117,14 @@ pub(crate) fn opener_named(word: &[u8]) -> Option<Opener>
         Some(Opener::Text(TextAtom::Failed))
     } else if is_name(word, "aborted") {
         Some(Opener::Text(TextAtom::Aborted))
+    } else if is_name(word, "message") {
+        Some(Opener::Text(TextAtom::Message))
     } else if is_name(word, "file") {
         Some(Opener::Text(TextAtom::File))
     } else if is_name(word, "kind") {
         Some(Opener::Kind)
+    } else if is_name(word, "segment") {
+        Some(Opener::Segment)
     } else if is_name(word, "entry") {
         Some(Opener::Entry)
     } else if is_name(word, "all") {
@@ -170,8 +177,10 @@ fn begins_opener(word: &[u8]) -> bool
         || is_prefix_of(word, "skipped")
         || is_prefix_of(word, "failed")
         || is_prefix_of(word, "aborted")
+        || is_prefix_of(word, "message")
         || is_prefix_of(word, "file")
         || is_prefix_of(word, "kind")
+        || is_prefix_of(word, "segment")
         || is_prefix_of(word, "entry")
         || is_prefix_of(word, "all")
         || is_prefix_of(word, "any")

@@ -1,6 +1,6 @@
 //! Writing the text of a condition.
 ghost use Rattle.std.specs.Prelude.{◌≡◌, ◌++◌, ◌∷◌, [], IfOk, OnOk, string_bytes, encode_utf8};
-ghost use Rattle.tk_query_conditions.specs.Characters.{closing_bracket, opening_bracket};
+ghost use Rattle.tk_query_conditions.specs.Characters.{closing_bracket, comma, opening_bracket};
 ghost use Rattle.tk_query_conditions.specs.Cond.{NoPairs, Nothing, cond_text, escaped, list_text, pairs_text};
 ghost use Rattle.tk_query_conditions.specs.CondOf.{cond_of, pairs_from};
 ghost use Rattle.tk_query_conditions.specs.steps.CondOf.{conds_from};
@@ -54,6 +54,19 @@ fn push_separator(out: &mut String, at: usize) -> Result<(), AllocError>
     out.push_str(",")
 }
 
+/// Writes the tag and the value of a segment in brackets, with a comma between them.
+fn push_segment(out: &mut String, tag: &str, value: &str) -> Result<(), AllocError>
+    ensures { OnOk result (string_bytes out.new ≡ string_bytes out.old
+        ++ (opening_bracket ∷ (escaped tag.now ++ comma ∷ escaped value.now)
+        ++ closing_bracket ∷ [])) }
+{
+    out.push_str("(")?;
+    push_escaped(out, tag)?;
+    out.push_str(",")?;
+    push_escaped(out, value)?;
+    out.push_str(")")
+}
+
 /// Writes pairs in brackets, with a comma between each two texts.
 fn push_pairs(out: &mut String, pairs: &[(Text, Text)]) -> Result<(), AllocError>
     ensures { OnOk result (string_bytes out.new ≡ string_bytes out.old
@@ -79,12 +92,14 @@ fn word(condition: &Condition) -> &'static str
         Condition::Engine => "engine",
         Condition::Id(_) => "id",
         Condition::Name(_) => "name",
+        Condition::Segment(_, _) => "segment",
         Condition::Kind(_) => "kind",
         Condition::Skipped(_) => "skipped",
         Condition::Started => "started",
         Condition::Succeeded => "succeeded",
         Condition::Failed(_) => "failed",
         Condition::Aborted(_) => "aborted",
+        Condition::Message(_) => "message",
         Condition::File(_) => "file",
         Condition::Entry(_) => "entry",
         Condition::All(_) => "all",
@@ -103,10 +118,12 @@ fn push_operand(out: &mut String, atom: &Condition) -> Result<(), AllocError>
     match atom {
         Condition::Id(text) => push_text(out, text.as_str()),
         Condition::Name(text) => push_text(out, text.as_str()),
+        Condition::Segment(tag, value) => push_segment(out, tag.as_str(), value.as_str()),
         Condition::Kind(kind) => push_text(out, kind.word()),
         Condition::Skipped(text) => push_text(out, text.as_str()),
         Condition::Failed(Some(text)) => push_text(out, text.as_str()),
         Condition::Aborted(Some(text)) => push_text(out, text.as_str()),
+        Condition::Message(text) => push_text(out, text.as_str()),
         Condition::File(text) => push_text(out, text.as_str()),
         Condition::Entry(pairs) => push_pairs(out, pairs.as_slice()),
         _ => Ok(()),

@@ -6,7 +6,7 @@ use Rattle.std.proofs.lemmas.Bool.{not-true}
 use Rattle.tk_base.proofs.Truth.{and-true}
 use Rattle.tk_events.specs.declared.events.Entry.{Entry}
 use Rattle.tk_record.specs.Recorded.{Recorded}
-use Rattle.tk_query_conditions.specs.Cond.{Plain, With, OfKind, HasPairs, All, Any, Not, Conds, Nothing, More}
+use Rattle.tk_query_conditions.specs.Cond.{Plain, With, OfKind, HasSegment, HasPairs, All, Any, Not, Conds, Nothing, More}
 use Rattle.tk_query.specs.Holds.{cond_holds, all_hold}
 use Rattle.tk_query_nearest.specs.Members.{members, members_of}
 use Rattle.tk_query_nearest.specs.Laws.{HoldsByMembers, LackingIsExact}
@@ -18,6 +18,7 @@ mutual
   by_members r (Plain bare) e = sym (and-true (cond_holds r (Plain bare) e))
   by_members r (With text_atom text) e = sym (and-true (cond_holds r (With text_atom text) e))
   by_members r (OfKind kind) e = sym (and-true (cond_holds r (OfKind kind) e))
+  by_members r (HasSegment tag value) e = sym (and-true (cond_holds r (HasSegment tag value) e))
   by_members r (HasPairs pairs) e = sym (and-true (cond_holds r (HasPairs pairs) e))
   by_members r (Any cs) e = sym (and-true (cond_holds r (Any cs) e))
   by_members r (Not c) e = sym (and-true (cond_holds r (Not c) e))

@@ -234,6 +234,27 @@ module _ (d : ℕ → ℕ) where
   pub best_none : (S : ℕ → Type 0) (n : ℕ) → ((x : ℕ) → S x → ⊥) → AreBest S n []
   best_none S n none = record { each = λ q h. absurd h; ranked = tt; others = λ q s. absurd (none q s); at_most = omega arith }
 
+  -- one position more, which comes after all of them
+  pub best_kept : (S T : ℕ → Type 0) (n q : ℕ) (ps : List ℕ) → AreBest S n ps
+      → ((x : ℕ) → S x → T x) → ((x : ℕ) → T x → (q ≡ x) ⊎ S x) → IsPast n ps q → AreBest T n ps
+  best_kept S T n q ps best grow only past = record {
+    each = λ x has. grow x (best.each x has);
+    ranked = best.ranked;
+    others = λ x t. ⊎_elim {C = Has ps x ⊎ IsPast n ps x}
+        (λ (same : q ≡ x). inr (subst (IsPast n ps) same past))
+        (λ (old : S x). best.others x old)
+        (only x t);
+    at_most = best.at_most;
+  }
+
+  -- what comes after the last of three comes after all of them
+  pub past_three : (p q x y : ℕ) → Ranked (p ∷ q ∷ x ∷ []) → Near x y
+      → IsPast 3 (p ∷ q ∷ x ∷ []) y
+  past_three p q x y ((_, (px, _)), ((qx, _), _)) last = record {
+    full = refl;
+    after = (near_trans p x y px last, (near_trans q x y qx last, (last, tt)));
+  }
+
   -- the same positions by another name
   pub best_same : (S T : ℕ → Type 0) (n : ℕ) (ps : List ℕ) → ((x : ℕ) → S x → T x) → ((x : ℕ) → T x → S x) → AreBest S n ps → AreBest T n ps
   best_same S T n ps to back best = record { each = λ q has. to q (best.each q has); ranked = best.ranked; others = λ q t. best.others q (back q t); at_most = best.at_most }

@@ -3,7 +3,7 @@ use Rattle.std.proofs.Common.{◌≡◌, ℕ, List, [], ◌∷◌, ◌++◌, ref
 use Rattle.std.specs.Prelude.{codes}
 use Rattle.std.specs.List.{flat_map}
 use Rattle.std.proofs.lemmas.List.{append_assoc, append-nil}
-use Rattle.tk_query_conditions.specs.Cond.{Test, Container, Engine, Started, Succeeded, Failed, Aborted, Id, Name, Skipped, FailedWith, AbortedWith, File, Cond, Plain, With, OfKind, HasPairs, All, Any, Not, cond_text}
+use Rattle.tk_query_conditions.specs.Cond.{Test, Container, Engine, Started, Succeeded, Failed, Aborted, Id, Name, Skipped, FailedWith, AbortedWith, Message, File, Cond, Plain, With, OfKind, HasSegment, HasPairs, All, Any, Not, cond_text}
 use Rattle.tk_query_nearest.specs.Members.{joined}
 use Rattle.tk_query_nearest.specs.steps.Writing.{separated, appended}
 
@@ -21,8 +21,10 @@ first_of (With Name text) = (_, _, refl)
 first_of (With Skipped text) = (_, _, refl)
 first_of (With FailedWith text) = (_, _, refl)
 first_of (With AbortedWith text) = (_, _, refl)
+first_of (With Message text) = (_, _, refl)
 first_of (With File text) = (_, _, refl)
 first_of (OfKind kind) = (_, _, refl)
+first_of (HasSegment tag value) = (_, _, refl)
 first_of (HasPairs pairs) = (_, _, refl)
 first_of (All cs) = (_, _, refl)
 first_of (Any cs) = (_, _, refl)

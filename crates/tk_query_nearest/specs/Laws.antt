@@ -1,5 +1,5 @@
 -- What follows from the definitions of members, parts and the nearest events.
-use Rattle.std.specs.Prelude.{◌≡◌, ℕ, ◌↔◌, true, false, List, Contains}
+use Rattle.std.specs.Prelude.{◌≡◌, ℕ, ◌↔◌, true, false, List, Contains, sum_by}
 use Rattle.std.specs.List.{list_all}
 use Rattle.tk_events.specs.declared.events.Entry.{Entry}
 use Rattle.tk_record.specs.Recorded.{Recorded}
@@ -7,7 +7,7 @@ use Rattle.tk_record.specs.Selections.{Selected}
 use Rattle.tk_query_conditions.specs.Cond.{Cond}
 use Rattle.tk_query.specs.Holds.{cond_holds}
 use Rattle.tk_query_nearest.specs.Members.{members, lacking}
-use Rattle.tk_query_nearest.specs.Parts.{distance}
+use Rattle.tk_query_nearest.specs.Parts.{distance, missing}
 use Rattle.tk_query_nearest.specs.Nearness.{IsNearest}
 
 -- a condition holds of an event exactly where all its members do
@@ -22,6 +22,12 @@ LackingIsExact =
     (r : Recorded) (c : Cond) (e : Entry) (member : Cond) →
     Contains (lacking r c e) member
     ↔ (Contains (members c) member × (cond_holds r member e ≡ false))
+
+-- as many parts of a condition don't hold of an event as of its members together
+abbrev pub MissingByMembers : Type 0
+MissingByMembers =
+    (r : Recorded) (c : Cond) (e : Entry) →
+    missing r c e ≡ sum_by (λ member. missing r member e) (members c)
 
 -- a condition holds of an event where none of its parts fails to hold
 abbrev pub NoneMissingHolds : Type 0

@@ -1,21 +1,24 @@
 -- What the members of a condition ask of an event, part by part, and how much of it is missing.
 use Rattle.std.specs.Prelude.{
   ℕ,
+  ◌+◌,
+  min,
   Bool,
   false,
   not,
-  min,
   List,
   [],
   ◌∷◌,
-  Some,
+  ◌++◌,
+  map,
+  bytes_eq,
   count_by,
-  flat_map,
 }
+use Rattle.std.specs.List.{list_any}
 use Rattle.tk_events.specs.declared.kinds.Kind.{Kind}
 use Rattle.tk_events.specs.declared.kinds.Kind.TheVariants as kind
 use Rattle.tk_events.specs.declared.payloads.Payload.{Payload}
-use Rattle.tk_events.specs.declared.payloads.Payload.TheVariants.{Reason, Outcome, Path}
+use Rattle.tk_events.specs.declared.payloads.Payload.TheVariants.{Reason, Report, Path}
 use Rattle.tk_events.specs.declared.events.Entry.{Entry}
 use Rattle.tk_record.specs.Entries.{of_kind, desc}
 use Rattle.tk_record.specs.Recorded.{Recorded}
@@ -27,14 +30,25 @@ use Rattle.tk_query_conditions.specs.Cond.{
   Skipped,
   FailedWith,
   AbortedWith,
+  Message,
   File,
   Cond,
   Plain,
   With,
   HasPairs,
+  All,
+  Any,
+  Conds,
+  Nothing,
+  More,
 }
-use Rattle.tk_query.specs.Holds.{cond_holds, has_descriptor, has_within}
-use Rattle.tk_query_nearest.specs.Members.{members}
+use Rattle.tk_query.specs.Holds.{
+  cond_holds,
+  has_descriptor,
+  has_within,
+  message_contains,
+  pairs_list,
+}
 use Rattle.tk_query_nearest.specs.declared.parts.TheConstants.{MAX_DISTANCE}
 
 -- one thing that a member of a condition asks of an event
@@ -46,13 +60,10 @@ pub data Part : Type 0 where
   ReasonContains : List ℕ → Part
   PathContains : List ℕ → Part
   NameContains : List ℕ → Part
+  -- one of the pairs that it reports has this key
+  HasKey : List ℕ → Part
   -- the condition holds of it
   Meets : Cond → Part
-
--- the payload is an outcome with a message that contains the text
-abbrev pub message_contains : List ℕ → Payload → Bool
-message_contains text (Outcome status (Some given)) = has_within text given
-message_contains text _ = false
 
 -- the payload is a reason that contains the text
 abbrev pub reason_contains : List ℕ → Payload → Bool
@@ -64,6 +75,11 @@ abbrev pub path_contains : List ℕ → Payload → Bool
 path_contains text (Path given) = has_within text given
 path_contains text _ = false
 
+-- the payload is a report, and one of its pairs has this key
+abbrev pub has_key : List ℕ → Payload → Bool
+has_key key (Report given) = list_any (λ (pair : List ℕ × List ℕ). bytes_eq pair.0 key) given
+has_key key _ = false
+
 -- whether a part holds of an entry of the record
 abbrev pub part_holds : Recorded → Part → Entry → Bool
 part_holds r (IsKind kind) e = of_kind kind e
@@ -72,9 +88,10 @@ part_holds r (ReasonContains text) e = reason_contains text e.event.payload
 part_holds r (PathContains text) e = path_contains text e.event.payload
 part_holds r (NameContains text) e =
     has_descriptor (λ d. has_within text d.name) (desc r e.event.key)
+part_holds r (HasKey key) e = has_key key e.event.payload
 part_holds r (Meets c) e = cond_holds r c e
 
--- the parts of a member
+-- the parts of a member, but of `any(..)`
 abbrev pub member_parts : Cond → List Part
 member_parts (Plain Succeeded) = IsKind kind.Finished ∷ Meets (Plain Succeeded) ∷ []
 member_parts (Plain Failed) = IsKind kind.Finished ∷ Meets (Plain Failed) ∷ []
@@ -85,22 +102,41 @@ member_parts (With FailedWith text) =
 member_parts (With AbortedWith text) =
     IsKind kind.Finished ∷ Meets (Plain Aborted)
     ∷ MessageContains text ∷ Meets (With AbortedWith text) ∷ []
+member_parts (With Message text) = IsKind kind.Finished ∷ Meets (With Message text) ∷ []
 member_parts (With Skipped text) =
     IsKind kind.Skipped ∷ ReasonContains text ∷ Meets (With Skipped text) ∷ []
 member_parts (With File text) =
     IsKind kind.File ∷ PathContains text ∷ Meets (With File text) ∷ []
 member_parts (With Name text) = NameContains text ∷ Meets (With Name text) ∷ []
-member_parts (HasPairs pairs) = IsKind kind.Reporting ∷ Meets (HasPairs pairs) ∷ []
+member_parts (HasPairs pairs) =
+    IsKind kind.Reporting ∷ map (λ (pair : List ℕ × List ℕ). HasKey pair.0) (pairs_list pairs)
+    ++ Meets (HasPairs pairs) ∷ []
 member_parts c = Meets c ∷ []
 
--- the parts of a condition: those of its members, in their order
-abbrev pub parts : Cond → List Part
-parts c = flat_map member_parts (members c)
-
 -- how many of the parts don't hold of an entry of the record
-abbrev pub missing : Recorded → List Part → Entry → ℕ
-missing r list e = count_by (λ part. not (part_holds r part e)) list
+abbrev pub missing_parts : Recorded → List Part → Entry → ℕ
+missing_parts r list e = count_by (λ part. not (part_holds r part e)) list
+
+abbrev mutual
+  -- How many parts of a condition don't hold of an entry of the record. The parts of `all(..)` are
+  -- those of its conditions. Of `any(..)` as many don't hold as of the one of its conditions of
+  -- which the fewest don't: none where one of them holds.
+  pub missing : Recorded → Cond → Entry → ℕ
+  missing r (All cs) e = missing_of_all r cs e
+  missing r (Any cs) e = fewest_missing r cs e
+  missing r c e = missing_parts r (member_parts c) e
+
+  -- how many parts of all of the conditions don't hold
+  pub missing_of_all : Recorded → Conds → Entry → ℕ
+  missing_of_all r Nothing e = 0
+  missing_of_all r (More cs c) e = missing_of_all r cs e + missing r c e
+
+  -- how many parts don't hold of the condition of which the fewest don't, one if there is none
+  pub fewest_missing : Recorded → Conds → Entry → ℕ
+  fewest_missing r Nothing e = 1
+  fewest_missing r (More Nothing c) e = missing r c e
+  fewest_missing r (More (More cs d) c) e = min (fewest_missing r (More cs d) e) (missing r c e)
 
 -- how many parts of the condition don't hold of an entry of the record, counted up to a limit
 abbrev pub distance : Recorded → Cond → Entry → ℕ
-distance r c e = min (missing r (parts c) e) MAX_DISTANCE
+distance r c e = min (missing r c e) MAX_DISTANCE

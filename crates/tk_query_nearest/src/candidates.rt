@@ -1,8 +1,9 @@
 //! The candidates for the nearest events.
 ghost use Rattle.std.specs.Prelude.{◌≡◌, ◌≤◌, ◌==◌, length, slice_get, take};
 ghost use Rattle.tk_query_nearest.specs.Candidates.{listed, positions_of};
-ghost use Rattle.tk_query_nearest.specs.steps.Candidates.{inserted, is_nearer};
+ghost use Rattle.tk_query_nearest.specs.steps.Candidates.{admits, counted_to, inserted, is_nearer};
 
+use crate::parts::MAX_DISTANCE;
 use std::marker::Model;
 
 /// How many events are found at most.
@@ -47,6 +48,27 @@ impl Candidates {
             Candidates::Three(b, c, _) if is_nearer(a, c) => Candidates::Three(b, a, c),
             Candidates::Three(b, c, d) if is_nearer(a, d) => Candidates::Three(b, c, a),
             Candidates::Three(_, _, _) => self,
+        }
+    }
+
+    /// How many missing parts of an event after these candidates are counted: where there are
+    /// three, no more than the last of them lacks.
+    pub(crate) fn counted_to(self) -> usize
+        ensures { result ≡ counted_to (listed self) }
+    {
+        match self {
+            Candidates::Three(_, _, last) => last.distance,
+            _ => MAX_DISTANCE,
+        }
+    }
+
+    /// Whether an event after these candidates is among the nearest, where it lacks so much.
+    pub(crate) fn admits(self, distance: usize) -> bool
+        ensures { result ≡ admits (listed self) distance }
+    {
+        match self {
+            Candidates::Three(_, _, last) => distance < last.distance,
+            _ => true,
         }
     }
 }

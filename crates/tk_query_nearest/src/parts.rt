@@ -1,12 +1,13 @@
 //! How many parts of a condition don't hold of an event.
-ghost use Rattle.std.specs.Prelude.{◌≡◌, ◌≤◌, ◌+◌, if◌then◌else◌, slice_get, MatchOption};
+ghost use Rattle.std.specs.Prelude.{◌≡◌, ◌≤◌, ◌+◌, min, not, if◌then◌else◌, bytes_eq, count_by, length, slice_get, MatchOption};
+ghost use Rattle.std.specs.List.{list_any};
 ghost use Rattle.tk_record.specs.Entries.{of_kind, of_status, desc};
 ghost use Rattle.tk_record.specs.Record.{entry_of_view};
-ghost use Rattle.tk_query_conditions.specs.Cond.{All, Nothing};
+ghost use Rattle.tk_query_conditions.specs.Cond.{All, Any, Nothing};
 ghost use Rattle.tk_query_conditions.specs.CondOf.{cond_of};
 ghost use Rattle.tk_query_conditions.specs.steps.CondOf.{conds_from};
-ghost use Rattle.tk_query.specs.Holds.{has_within, has_descriptor};
-ghost use Rattle.tk_query_nearest.specs.Parts.{distance, member_parts, missing, message_contains, path_contains, reason_contains};
+ghost use Rattle.tk_query.specs.Holds.{has_within, has_descriptor, message_contains};
+ghost use Rattle.tk_query_nearest.specs.Parts.{distance, has_key, member_parts, missing, missing_parts, path_contains, reason_contains};
 
 use tk_events::{Kind, Payload, Status};
 use tk_ids::Text;
@@ -59,6 +60,27 @@ fn name_contains(record: &Record, key: u32, text: &Text) -> bool
     }
 }
 
+fn same_key(pair: &(Text, Text), key: &Text) -> bool
+    ensures { result ≡ bytes_eq pair.now.0 key.now }
+{
+    pair.0.as_str() == key.as_str()
+}
+
+fn is_key_of(key: &Text, pairs: &[(Text, Text)]) -> bool
+    ensures { result ≡ list_any (λ pair. bytes_eq pair.0 key.now) pairs.now }
+{
+    pairs.iter().any(|pair| same_key(pair, key))
+}
+
+fn has_key(payload: &Payload, key: &Text) -> bool
+    ensures { result ≡ has_key key.now payload.now }
+{
+    match payload {
+        Payload::Report(given) => is_key_of(key, given.as_slice()),
+        _ => false,
+    }
+}
+
 fn finished_so(event: &EntryView, status: Status) -> bool
     ensures { result ≡ of_status status (entry_of_view event.now) }
 {
@@ -96,17 +118,30 @@ fn lack_of_finish(event: &EntryView, status: Status, text: &Text) -> usize
         + lack(message_contains(event.payload, text))
 }
 
-/// How many parts of a member don't hold.
+/// How many of the pairs named have a key that no pair of the event has.
+fn missing_keys(payload: &Payload, named: &[(Text, Text)]) -> usize
+    ensures value { result ≡ count_by (λ pair. not (has_key pair.0 payload.now)) named.now }
+    ensures bound { result ≤ length named.now }
+{
+    let mut missing = 0;
+    for pair in named {
+        missing += lack(has_key(payload, &pair.0));
+    }
+    missing
+}
+
+/// How many parts of a member don't hold. `any(..)` is counted as its own part.
 fn missing_of_member(record: &Record, member: &Condition, event: &EntryView) -> usize
     ensures value { result
-        ≡ missing «record».now (member_parts (cond_of member.now)) (entry_of_view event.now) }
-    ensures bound { result ≤ 4 }
+        ≡ missing_parts «record».now (member_parts (cond_of member.now))
+        (entry_of_view event.now) }
 {
     let own = lack(holds(record, member, event));
     match member {
-        Condition::Succeeded | Condition::Failed(None) | Condition::Aborted(None) => {
-            own + lack_of_kind(event, Kind::Finished)
-        }
+        Condition::Succeeded
+        | Condition::Failed(None)
+        | Condition::Aborted(None)
+        | Condition::Message(_) => own + lack_of_kind(event, Kind::Finished),
         Condition::Failed(Some(text)) => own + lack_of_finish(event, Status::Failed, text),
         Condition::Aborted(Some(text)) => own + lack_of_finish(event, Status::Aborted, text),
         Condition::Skipped(text) => {
@@ -116,41 +151,80 @@ fn missing_of_member(record: &Record, member: &Condition, event: &EntryView) -> 
             own + lack_of_kind(event, Kind::File) + lack(path_contains(event.payload, text))
         }
         Condition::Name(text) => own + lack(name_contains(record, event.key, text)),
-        Condition::Entry(_) => own + lack_of_kind(event, Kind::Reporting),
+        Condition::Entry(pairs) => {
+            own + lack_of_kind(event, Kind::Reporting)
+                + missing_keys(event.payload, pairs.as_slice())
+        }
         _ => own,
     }
 }
 
-/// How many parts of a condition don't hold of an event of a record, counted up to `MAX_DISTANCE`.
+/// How many parts of a condition don't hold of an event of a record, counted up to `most`.
 #[cycle(distances)]
-pub fn distance(record: &Record, condition: &Condition, event: &EntryView) -> usize
-    ensures { result ≡ distance «record».now (cond_of condition.now) (entry_of_view event.now) }
+fn distance_up_to(record: &Record, condition: &Condition, event: &EntryView, most: usize) -> usize
+    ensures { result
+        ≡ min (missing «record».now (cond_of condition.now) (entry_of_view event.now)) most }
 {
     match condition {
-        Condition::All(members) => distance_of_all(record, members, event),
-        _ => missing_of_member(record, condition, event),
+        Condition::All(members) => distance_of_all(record, members, event, most),
+        Condition::Any(members) => distance_of_any(record, members, event, most),
+        _ => missing_of_member(record, condition, event).min(most),
     }
 }
 
 #[cycle(distances)]
-fn distance_of_all(record: &Record, members: &[Condition], event: &EntryView) -> usize
-    ensures { result ≡ distance «record».now (All (conds_from Nothing members.now))
-        (entry_of_view event.now) }
+fn distance_of_all(record: &Record, members: &[Condition], event: &EntryView, most: usize) -> usize
+    ensures { result ≡ min (missing «record».now (All (conds_from Nothing members.now))
+        (entry_of_view event.now)) most }
 {
-    let mut total: usize = 0;
+    let mut total = 0;
     for member in members {
-        total = total.saturating_add(distance(record, member, event));
+        if total == most {
+            return most;
+        }
+        total += distance_up_to(record, member, event, most - total);
     }
     total
 }
 
-/// How many parts of a condition don't hold of the entry at a position, 0 past the last one.
-pub(crate) fn distance_at(record: &Record, condition: &Condition, position: usize) -> usize
+#[cycle(distances)]
+fn distance_of_any(record: &Record, members: &[Condition], event: &EntryView, most: usize) -> usize
+    ensures { result ≡ min (missing «record».now (Any (conds_from Nothing members.now))
+        (entry_of_view event.now)) most }
+{
+    if members.is_empty() {
+        return most.min(1);
+    }
+    let mut fewest = most;
+    for member in members {
+        if fewest == 0 {
+            return 0;
+        }
+        fewest = distance_up_to(record, member, event, fewest);
+    }
+    fewest
+}
+
+/// How many parts of a condition don't hold of an event of a record, counted up to `MAX_DISTANCE`.
+pub fn distance(record: &Record, condition: &Condition, event: &EntryView) -> usize
+    ensures { result ≡ distance «record».now (cond_of condition.now) (entry_of_view event.now) }
+{
+    distance_up_to(record, condition, event, MAX_DISTANCE)
+}
+
+/// How many parts of a condition don't hold of the entry at a position, counted up to `most`; 0
+/// past the last one.
+pub(crate) fn distance_at(
+    record: &Record,
+    condition: &Condition,
+    position: usize,
+    most: usize,
+) -> usize
     ensures { MatchOption (slice_get «record».now.entries position) (result ≡ 0) (λ e.
-        result ≡ distance «record».now (cond_of condition.now) e) }
+        result ≡ min (distance «record».now (cond_of condition.now) e) most) }
 {
     match record.entry(position) {
-        Some(event) => distance(record, condition, &event),
+        Some(event) => distance_up_to(record, condition, &event, most),
         None => 0,
     }
 }

@@ -19,8 +19,10 @@ pub fn nearest(events: &Events, first: usize, condition: &Condition) -> Nearest
     let mut candidates = Candidates::Empty;
     let mut low = first;
     'events: while let Some(position) = events.flags().first_from(low) {
-        let distance = distance_at(record, condition, position);
-        candidates = candidates.with(Candidate { distance, position });
+        let distance = distance_at(record, condition, position, candidates.counted_to());
+        if candidates.admits(distance) {
+            candidates = candidates.with(Candidate { distance, position });
+        }
         low = position + 1;
     }
     Nearest { candidates }

@@ -26,9 +26,15 @@ use Rattle.tk_record.specs.declared.selections.ColumnTest.{ColumnTest}
 use Rattle.tk_query_conditions.specs.declared.conditions.Condition.{Condition}
 use Rattle.tk_query_conditions.specs.declared.conditions.Condition as condition
 use Rattle.tk_query.specs.declared.rules.PayloadTest.{PayloadTest}
-use Rattle.tk_query.specs.declared.rules.PayloadTest.TheVariants.{Reason, Message, Path, Report}
+use Rattle.tk_query.specs.declared.rules.PayloadTest.TheVariants.{
+  Reason,
+  Message,
+  MessageContains,
+  Path,
+  Report,
+}
 use Rattle.tk_query.specs.declared.rules.DescriptorTest.{DescriptorTest}
-use Rattle.tk_query.specs.declared.rules.DescriptorTest.TheVariants.{Engine, Id, Name}
+use Rattle.tk_query.specs.declared.rules.DescriptorTest.TheVariants.{Engine, Id, Segment, Name}
 use Rattle.tk_query.specs.declared.rules.Rule.{Rule}
 use Rattle.tk_query.specs.declared.rules.Rule.TheVariants as rule
 use Rattle.tk_query.specs.Holds.{
@@ -36,9 +42,11 @@ use Rattle.tk_query.specs.Holds.{
   has_message,
   has_path,
   has_reason,
+  has_segment,
   has_within,
   holds,
   is_engine,
+  message_contains,
   reports,
 }
 
@@ -46,6 +54,7 @@ use Rattle.tk_query.specs.Holds.{
 abbrev pub payload_passes : PayloadTest → Payload → Bool
 payload_passes (Reason text) payload = has_reason text.now payload
 payload_passes (Message text) payload = has_message text.now payload
+payload_passes (MessageContains text) payload = message_contains text.now payload
 payload_passes (Path text) payload = has_path text.now payload
 payload_passes (Report pairs) payload = reports pairs.now payload
 
@@ -53,6 +62,7 @@ payload_passes (Report pairs) payload = reports pairs.now payload
 abbrev pub descriptor_passes : DescriptorTest → Descriptor → Bool
 descriptor_passes Engine d = is_engine d.id
 descriptor_passes (Id text) d = has_within text.now (id_text d.id)
+descriptor_passes (Segment tag value) d = has_segment tag.now value.now d.id
 descriptor_passes (Name text) d = bytes_eq d.name text.now
 
 -- whether the descriptor of a key passes the test

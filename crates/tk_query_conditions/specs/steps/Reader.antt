@@ -25,6 +25,7 @@ use Rattle.tk_query_conditions.specs.Cond.{
   Skipped,
   FailedWith,
   AbortedWith,
+  Message,
   File,
   NoPairs,
   Nothing,
@@ -32,8 +33,9 @@ use Rattle.tk_query_conditions.specs.Cond.{
 use Rattle.tk_query_conditions.specs.CondOf.{cond_of, pairs_from}
 use Rattle.tk_query_conditions.specs.steps.CondOf.{conds_from}
 use Rattle.tk_query_conditions.specs.steps.Reading.{OpenGroup, OpenNot, OpenAll, OpenAny, Opener}
-use Rattle.tk_query_conditions.specs.steps.Reading.{OfText, OfKinds, OfPairs, OfAll, OfAny, OfNot}
-use Rattle.tk_query_conditions.specs.steps.Reading.{State, Word, InText, InKind, InPairs, After}
+use Rattle.tk_query_conditions.specs.steps.Reading.{OfText, OfKinds, OfSegment, OfPairs, OfAll}
+use Rattle.tk_query_conditions.specs.steps.Reading.{OfAny, OfNot, State, Word, InText, InKind}
+use Rattle.tk_query_conditions.specs.steps.Reading.{InTag, InValue, InPairs, After}
 
 abbrev pub text_atom_of : text_atom.TextAtom → TextAtom
 text_atom_of text_atoms.Id = Id
@@ -41,11 +43,13 @@ text_atom_of text_atoms.Name = Name
 text_atom_of text_atoms.Skipped = Skipped
 text_atom_of text_atoms.Failed = FailedWith
 text_atom_of text_atoms.Aborted = AbortedWith
+text_atom_of text_atoms.Message = Message
 text_atom_of text_atoms.File = File
 
 abbrev pub opener_of : opener.Opener → Opener
 opener_of (openers.Text t) = OfText (text_atom_of t)
 opener_of openers.Kind = OfKinds
+opener_of openers.Segment = OfSegment
 opener_of openers.Entry = OfPairs
 opener_of openers.All = OfAll
 opener_of openers.Any = OfAny
@@ -73,6 +77,8 @@ abbrev pub state_at : List OpenGroup → Position → State
 state_at stack (positions.Word word) = Word stack word.items
 state_at stack (positions.Text t partial) = InText stack (text_atom_of t) partial
 state_at stack (positions.Kind word) = InKind stack word.items
+state_at stack (positions.Tag partial) = InTag stack partial
+state_at stack (positions.Value tag partial) = InValue stack tag partial
 state_at stack (positions.Pairs pairs) = in_pairs stack pairs
 state_at stack (positions.After c) = After stack (cond_of c)
 
@@ -84,6 +90,8 @@ abbrev pub depth_of : State → ℕ
 depth_of (Word stack word) = length stack
 depth_of (InText stack t partial) = length stack
 depth_of (InKind stack word) = length stack
+depth_of (InTag stack partial) = length stack
+depth_of (InValue stack tag partial) = length stack
 depth_of (InPairs stack pairs key partial) = length stack
 depth_of (After stack c) = length stack
 
@@ -101,5 +109,7 @@ ContinuesAsText partial b =
 -- where the state is inside a text: what was read of it, this byte and some others are UTF-8
 abbrev pub CanContinue : State → ℕ → Type 0
 CanContinue (InText stack t partial) b = ContinuesAsText partial b
+CanContinue (InTag stack partial) b = ContinuesAsText partial b
+CanContinue (InValue stack tag partial) b = ContinuesAsText partial b
 CanContinue (InPairs stack pairs key partial) b = ContinuesAsText partial b
 CanContinue _ b = Unit {0}

@@ -22,6 +22,7 @@ use Rattle.tk_query_conditions.specs.Cond.{
   Skipped,
   FailedWith,
   AbortedWith,
+  Message,
   File,
   Pairs,
   NoPairs,
@@ -30,6 +31,7 @@ use Rattle.tk_query_conditions.specs.Cond.{
   Plain,
   With,
   OfKind,
+  HasSegment,
   HasPairs,
   All,
   Any,
@@ -63,6 +65,10 @@ pub data State : Type 0 where
   InText : List OpenGroup → TextAtom → List ℕ × Escape → State
   -- in the name of a kind
   InKind : List OpenGroup → List ℕ → State
+  -- in the tag of a segment
+  InTag : List OpenGroup → List ℕ × Escape → State
+  -- in the value of a segment, after its tag
+  InValue : List OpenGroup → List ℕ → List ℕ × Escape → State
   -- in the pairs of an entry: the whole pairs, the key of the next one if it is read, and its text
   InPairs : List OpenGroup → Pairs → Option (List ℕ) → List ℕ × Escape → State
   -- after a whole condition
@@ -98,6 +104,7 @@ kinds = map (λ kind. (kind_text kind, kind)) all_kinds
 pub data Opener : Type 0 where
   OfText : TextAtom → Opener
   OfKinds : Opener
+  OfSegment : Opener
   OfPairs : Opener
   OfAll : Opener
   OfAny : Opener
@@ -111,8 +118,10 @@ openers =
     ∷ (codes "skipped", OfText Skipped)
     ∷ (codes "failed", OfText FailedWith)
     ∷ (codes "aborted", OfText AbortedWith)
+    ∷ (codes "message", OfText Message)
     ∷ (codes "file", OfText File)
     ∷ (codes "kind", OfKinds)
+    ∷ (codes "segment", OfSegment)
     ∷ (codes "entry", OfPairs)
     ∷ (codes "all", OfAll)
     ∷ (codes "any", OfAny)
@@ -176,6 +185,7 @@ close_empty _ b = None
 abbrev pub opened : List OpenGroup → Opener → State
 opened stack (OfText text_atom) = InText stack text_atom ([], Outside)
 opened stack OfKinds = InKind stack []
+opened stack OfSegment = InTag stack ([], Outside)
 opened stack OfPairs = InPairs stack NoPairs None ([], Outside)
 opened stack OfAll = Word (OpenAll Nothing ∷ stack) []
 opened stack OfAny = Word (OpenAny Nothing ∷ stack) []
@@ -220,6 +230,12 @@ step (InText stack text_atom partial) b =
 step (InKind stack word) b =
     if b == closing_bracket then option_map (λ kind. After stack (OfKind kind)) (look kinds word)
     else longer_kind stack (word ++ b ∷ [])
+step (InTag stack partial) b =
+    if ends_at comma partial b then Some (InValue stack partial.0 ([], Outside))
+    else option_map (InTag stack) (text_step partial b)
+step (InValue stack tag partial) b =
+    if ends_at closing_bracket partial b then Some (After stack (HasSegment tag partial.0))
+    else option_map (InValue stack tag) (text_step partial b)
 step (InPairs stack pairs key partial) b =
     if ends_at comma partial b then Some (next_text stack pairs key partial.0)
     else (if ends_at closing_bracket partial b then last_text stack pairs key partial.0

@@ -6,6 +6,7 @@ use Rattle.tk_query_conditions.specs.Cond.{
   Plain,
   With,
   OfKind,
+  HasSegment,
   HasPairs,
   All,
   Any,
@@ -22,6 +23,7 @@ abbrev pub word_of : Cond → List ℕ
 word_of (Plain bare) = bare_text bare
 word_of (With text_atom text) = text_atom_text text_atom
 word_of (OfKind kind) = codes "kind"
+word_of (HasSegment tag value) = codes "segment"
 word_of (HasPairs pairs) = codes "entry"
 word_of (All cs) = codes "all"
 word_of (Any cs) = codes "any"
@@ -37,5 +39,7 @@ abbrev pub operand_text : Cond → List ℕ
 operand_text (With text_atom text) = opening_bracket ∷ escaped text ++ closing_bracket ∷ []
 operand_text (OfKind kind) =
     opening_bracket ∷ escaped (kind_text kind) ++ closing_bracket ∷ []
+operand_text (HasSegment tag value) =
+    opening_bracket ∷ (escaped tag ++ comma ∷ escaped value) ++ closing_bracket ∷ []
 operand_text (HasPairs pairs) = opening_bracket ∷ pairs_text pairs ++ closing_bracket ∷ []
 operand_text _ = []

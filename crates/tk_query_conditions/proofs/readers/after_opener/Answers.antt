@@ -4,7 +4,7 @@ use Rattle.tk_query_conditions.specs.Cond.{NoPairs, Nothing}
 use Rattle.tk_query_conditions.specs.CondOf.{pairs_from}
 use Rattle.tk_query_conditions.specs.steps.CondOf.{conds_from}
 use Rattle.tk_query_conditions.specs.steps.Reader.{groups_of, opener_of, text_atom_of}
-use Rattle.tk_query_conditions.specs.steps.Reading.{OpenAll, OpenAny, Word, InText, InKind, InPairs}
+use Rattle.tk_query_conditions.specs.steps.Reading.{OpenAll, OpenAny, Word, InText, InKind, InTag, InPairs}
 use Rattle.tk_query_conditions.specs.steps.Reading.{opened}
 use Rattle.tk_query_conditions.proofs.ReaderLemmas.{step_made}
 use Rattle.tk_query_conditions.proofs.readers.after_opener.Goals as goal
@@ -18,6 +18,12 @@ pub returns-in-Kind : goal.returns-in-Kind
 returns-in-Kind c =
     let groups = groups_of c.args.stack.items in
     ap (λ o. Some (opened groups (opener_of o))) c.in-Kind.is ∙ ap (λ word. Some (InKind groups word)) (sym c.new-in-Kind.ensures.items)
+
+pub returns-in-Segment : goal.returns-in-Segment
+returns-in-Segment c =
+    let groups = groups_of c.args.stack.items in
+    ap (λ o. Some (opened groups (opener_of o))) c.in-Segment.is
+    ∙ ap (λ partial. Some (InTag groups partial)) (sym c.new-in-Segment.ensures)
 
 pub returns-in-Entry : goal.returns-in-Entry
 returns-in-Entry c =
