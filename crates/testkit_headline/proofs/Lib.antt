@@ -1,3 +1,5 @@
 pub mod Sessions
-pub mod Books
+pub mod Runs
 pub mod Records
+pub mod Questions
+pub mod WitnessValues

@@ -1,5 +1,5 @@
 -- What is counted, filtered and matched of a record, and the report of a plan's bytes.
-use Rattle.std.proofs.Common.{◌≡◌, ◌↔◌, ℕ, zero, suc, ◌+◌, Bool, true, false, true≢false, cond, List, [], ◌∷◌, map, take, filter, All, Option, Some, Ok, sym, refl, ap, subst}
+use Rattle.std.proofs.Common.{◌≡◌, ◌↔◌, ℕ, zero, suc, ◌+◌, Bool, true, false, true≢false, cond, List, [], ◌∷◌, map, take, filter, All, Option, Some, Result, Ok, Err, OnOk, ⊤, sym, refl, ap, subst}
 use Rattle.std.specs.Io.KnownBytes.{Appends}
 use Rattle.std.proofs.lemmas.List.Elements.{All-from_recursion}
 use Rattle.tk_events.specs.declared.events.Entry.{Entry}
@@ -15,44 +15,35 @@ use Rattle.tk_query.specs.InOrder.{HoldInTurn, CanHoldInTurn}
 use Rattle.tk_query.specs.Matches.{IsInOrder}
 use Rattle.tk_plan_runs.specs.Answers.{plan_text, IsReported}
 use Rattle.tk_query.specs.AnswerTexts.{in_order_yes}
+use Rattle.tk_plan_runs.specs.declared.faults.ReportFault.{ReportFault}
 use Rattle.testkit_headline.specs.Counting.{IsCount}
 use Rattle.testkit_headline.specs.PlanReports.{report_of, report_in}
 
--- the entries with their positions are the entries
-unpositioned :
-    (n : ℕ) (es : List Entry)
-    → map (λ (x : PositionedEntry). x.entry) (positioned_from n es) ≡ es
-unfolding positioned_from
-unpositioned n [] = refl
-unpositioned n (e ∷ es) = ap (λ l. e ∷ l) (unpositioned (n + 1) es)
-
--- those with their positions that pass are those that pass
+-- what passes of the events asked is what passes of their entries
 filtered :
-    (p : Entry → Bool) (n : ℕ) (es : List Entry)
-    → map (λ (x : PositionedEntry). x.entry)
-    (filter (λ (x : PositionedEntry). p x.entry) (positioned_from n es)) ≡ filter p es
-unfolding positioned_from
-filtered p n [] = refl
-filtered p n (e ∷ es) =
-    let rest = filter (λ (x : PositionedEntry). p x.entry) (positioned_from (n + 1) es) in
-    let first : PositionedEntry = record { position = n; entry = e } in
-    elim (p e) as
-    (λ b. map (λ (x : PositionedEntry). x.entry) (cond b (first ∷ rest) rest)
-    ≡ cond b (e ∷ filter p es) (filter p es))
-    [ true ↦ ap (λ l. e ∷ l) (filtered p (n + 1) es) | false ↦ filtered p (n + 1) es ]
+    (p : Entry → Bool) (kept : List PositionedEntry)
+    → map (λ (x : PositionedEntry). x.entry) (filter (λ (x : PositionedEntry). p x.entry) kept)
+    ≡ filter p (map (λ (x : PositionedEntry). x.entry) kept)
+filtered p [] = refl
+filtered p (x ∷ kept) =
+    let rest = filter (λ (y : PositionedEntry). p y.entry) kept in
+    elim (p x.entry) as
+    (λ b. map (λ (y : PositionedEntry). y.entry) (cond b (x ∷ rest) rest)
+    ≡ cond b (x.entry ∷ filter p (map (λ (y : PositionedEntry). y.entry) kept))
+    (filter p (map (λ (y : PositionedEntry). y.entry) kept)))
+    [ true ↦ ap (λ l. x.entry ∷ l) (filtered p kept) | false ↦ filtered p kept ]
 
 pub counts :
-    (r : Recorded) → All (IsCount r) (statistic_rows (statistics_of (events_of (all_of r))))
-counts r = subst
-    (λ (es : List Entry). All (IsCount r) (statistic_rows (statistics_of es)))
-    (sym (unpositioned 0 r.entries))
-    (All-from_recursion (IsCount r) (statistic_rows (statistics_of r.entries))
-    (refl, (refl, (refl, (refl, (refl, (refl, (refl, (refl, (refl, tt))))))))))
+    (asked : Selected) → All (IsCount asked) (statistic_rows (statistics_of (events_of asked)))
+counts asked =
+    All-from_recursion (IsCount asked) (statistic_rows (statistics_of (events_of asked)))
+    (refl, (refl, (refl, (refl, (refl, (refl, (refl, (refl, (refl, tt)))))))))
 
 pub filters :
-    (r : Recorded) (s : Selection)
-    → events_of (filtered_by (selects s r) (all_of r)) ≡ filter (selects s r) r.entries
-filters r s = filtered (selects s r) 0 r.entries
+    (asked : Selected) (s : Selection)
+    → events_of (filtered_by (selects s asked.recorded) asked)
+    ≡ filter (selects s asked.recorded) (events_of asked)
+filters asked s = filtered (selects s asked.recorded) asked.kept
 
 module _ {C : Type 0} (fits : C → ℕ → Bool) where
   -- what holds in turn holds so as far as any of the conditions
@@ -80,3 +71,11 @@ pub reported :
     → IsReported bytes workers old new (Ok tt)
     → (text : List ℕ) × (report_in bytes ≡ Some text) × Appends old new text
 reported bytes workers old new h = (plan_text h.0.0, ap report_of h.0.1, h.0.2)
+
+-- what a report that was written is, by its answer
+pub reported_on :
+    (bytes : List ℕ) (workers : ℕ) (old new : Option (List ℕ)) (answer : Result ⊤ ReportFault)
+    → IsReported bytes workers old new answer
+    → OnOk answer ((text : List ℕ) × (report_in bytes ≡ Some text) × Appends old new text)
+reported_on bytes workers old new (Ok u) h = reported bytes workers old new h
+reported_on bytes workers old new (Err fault) h = tt

@@ -1,4 +1,4 @@
--- What a schedule of a session comes to.
+-- What the state of a session comes to.
 use Rattle.std.proofs.Common.{◌≡◌, ◌≢◌, ◌==◌, ℕ, Bool, true, false, ◌||◌, if◌then◌else◌, true≢false, List, [], ◌∷◌, ◌++◌, All, sym, refl, ap, ◌∙◌, subst, ⊎_elim, append_assoc, append-nil, eq-eqb, ne_eqb}
 use Rattle.std.proofs.lemmas.Bool.{cases_eq}
 use Rattle.std.proofs.lemmas.List.Elements.{All-nil, All-cons}
@@ -7,21 +7,14 @@ use Rattle.tk_record.specs.Mixing.{IsWorkerOf, of_worker, Mix}
 use Rattle.tk_queue_core.specs.declared.items.Item.{Item}
 use Rattle.tk_queue_core.specs.declared.items.Item.TheVariants.{Entry as Emitted, End}
 use Rattle.tk_queue_core.specs.Core.{Core, IsCore, worker_of, items_of, entries, script}
-use Rattle.tk_queue_core.proofs.CoreSteps.{filter-append, pushes_core, takes}
+use Rattle.tk_queue_core.proofs.CoreSteps.{filter-append}
 use Rattle.tk_queue_session.specs.Marks.{is_marked}
 use Rattle.tk_queue_session.proofs.SharedSteps.{append_cons_ne_nil, holder_worker, events_in, events_among, events_scripted}
-use Rattle.testkit_headline.specs.Schedules.{IsPush, IsTake, IsSchedule, Completes, NothingAfterMarks}
-
--- each state of a schedule is one of the core
-core_of : (n : ℕ) (c : Core) (earlier : List Core) → IsSchedule n c earlier → IsCore n c
-core_of n c [] h =
-    subst (IsCore n) (sym h) (record { kept = λ w. refl; others = λ w not_one. (refl, refl) })
-core_of n c (old ∷ earlier) h =
-    let k = core_of n old earlier h.1 in
-    ⊎_elim
-    (λ (p : IsPush n old c). subst (IsCore n) (sym p.3) (pushes_core n p.0 old p.1 p.2 k))
-    (λ (t : IsTake old c). subst (IsCore n) (sym t.3) (takes n t.0 t.1 old t.2 k))
-    h.0
+use Rattle.tk_queue_session.specs.Senders.{SenderView}
+use Rattle.tk_queue_session.specs.Receivers.{ReceiverView}
+use Rattle.tk_queue_session.specs.Tokens.{sent_by}
+use Rattle.tk_queue_session.specs.Closing.{EndWithMarks}
+use Rattle.testkit_headline.specs.Recordings.{Completes, NothingAfterMarks}
 
 -- in a script nothing comes after the mark
 last_mark :
@@ -112,17 +105,19 @@ all_workers n c k before (End w ∷ xs) whole =
     all_workers n c k (before ++ End w ∷ []) xs
     (whole ∙ sym (append_assoc before (End w ∷ []) xs))
 
-pub mixes :
-    (n : ℕ) (c : Core) (earlier : List Core) → IsSchedule n c earlier → Completes n c
-    → Mix n (entries c.taken) c.sent
-mixes n c earlier schedule completes = let k = core_of n c earlier schedule in record {
+pub mixes : (n : ℕ) (c : Core) → IsCore n c → Completes n c → Mix n (entries c.taken) c.sent
+mixes n c k completes = record {
   workers = all_workers n c k [] c.taken refl;
   each = λ w is. taken_is_sent n w c k (completes w is);
 }
 
-pub nothing_after :
-    (n : ℕ) (c : Core) (earlier : List Core) → IsSchedule n c earlier
-    → NothingAfterMarks (c.taken ++ c.waiting)
-nothing_after n c earlier schedule w before after is =
-    let k = core_of n c earlier schedule in
+pub nothing_after : (n : ℕ) (c : Core) → IsCore n c → NothingAfterMarks n (c.taken ++ c.waiting)
+nothing_after n c k w before after worker is =
     after_mark w (c.sent w) (c.ended w) (c.taken ++ c.waiting) before after (k.kept w) is
+
+-- what was taken ends with the marks of the workers
+pub ends_with_marks :
+    (r : ReceiverView) (tokens : List SenderView) → EndWithMarks r tokens
+    → NothingAfterMarks r.workers r.taken
+ends_with_marks r tokens ends w before after worker is =
+    after_mark w (sent_by tokens w) true r.taken before after (ends w worker) is

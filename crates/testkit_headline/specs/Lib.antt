@@ -1,4 +1,6 @@
-pub mod Schedules
+pub mod Recordings
 pub mod Counting
 pub mod PlanReports
+pub mod Answers
 pub mod Headline
+pub mod Witnesses

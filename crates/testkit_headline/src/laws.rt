@@ -1,9 +1,39 @@
-//! The theorem as a whole.
+//! The theorem as a whole, and each of its parts as what the call promises that carries it: where a
+//! clause of that call says less, the proof of the part is refused here.
+ghost use Rattle.std.specs.Prelude.{◌≡◌, ◌↔◌, ℕ, true, All, IfOk, IfSome, List, OnOk, Option, Some, filter, map, slice_get, string_bytes, sum_by};
+ghost use Rattle.std.specs.Io.KnownBytes.{Appends};
+ghost use Rattle.tk_record.specs.Mixing.{Mix};
+ghost use Rattle.tk_record.specs.Selections.{events_of, selects};
+ghost use Rattle.tk_record.specs.Statistics.{statistic_rows};
+ghost use Rattle.tk_query.specs.AnswerTexts.{in_order_yes};
+ghost use Rattle.tk_query.specs.Asked.{fits};
+ghost use Rattle.tk_query.specs.InOrder.{CanHoldInTurn};
+ghost use Rattle.tk_locks.specs.NeedView.{NeedView};
+ghost use Rattle.tk_locks.specs.Holdings.{WritersAreAlone, held_word};
+ghost use Rattle.tk_queue_core.specs.Core.{entries};
+ghost use Rattle.tk_queue_session.specs.Closing.{sent_in};
+ghost use Rattle.testkit_headline.specs.Answers.{IsTheAnswer};
+ghost use Rattle.testkit_headline.specs.Counting.{IsCount};
 ghost use Rattle.testkit_headline.specs.Headline.{Headline};
+ghost use Rattle.testkit_headline.specs.PlanReports.{report_in};
+ghost use Rattle.testkit_headline.specs.Recordings.{HoldsWhatWasSent, NothingAfterMarks};
+ghost use Rattle.testkit_headline.specs.Witnesses.{Witnesses};
 
+use std::alloc::{AllocError, Global};
+use std::sync::Wait;
+use std::thread::Threads;
 use testkit_questions::laws::answer_is_unique;
+use testkit_questions::{AskFault, ask};
+use tk_engine_execute::{Engine, Results, RunFault, execute};
 use tk_engine_runs::laws::each_worker_has_its_list;
 use tk_locks::laws::writers_are_alone;
+use tk_locks::{Book, BookSeat};
+use tk_plan_runs::{ReportFault, plan_report};
+use tk_query::{InOrder, match_in_order};
+use tk_query_conditions::Condition;
+use tk_queue_session::{CloseFault, Closed, Ended, Receiver};
+use tk_record::{Events, Selection, Statistics};
+use tk_streams::{Source, Target};
 
 /// Shows what README.md says under "What is proved", part by part.
 pub fn headline()
@@ -12,4 +42,125 @@ pub fn headline()
     each_worker_has_its_list();
     writers_are_alone();
     answer_is_unique();
+}
+
+/// Shows with numbers that the words of the headline are met, and that they refuse.
+pub fn witnesses()
+    ensures { Witnesses }
+{}
+
+/// Closes a session: what was taken holds each event that each worker sent exactly once, in that
+/// worker's order, and nothing of a worker after its end mark.
+///
+/// # Errors
+/// As [`Receiver::close`].
+pub fn close_session(receiver: Receiver, ended: Vec<Ended>) -> Result<Closed, CloseFault>
+    requires { All (λ token. token.session ≡ receiver.session) ended.items }
+    ensures sent { IfOk result (λ closed.
+        Mix receiver.workers (entries receiver.taken) (sent_in closed)) }
+    ensures marks { OnOk result (NothingAfterMarks receiver.workers receiver.taken) }
+{
+    receiver.close(ended)
+}
+
+/// Runs an engine: its record holds what the workers sent, between the events before and after the
+/// units, whatever the engine's author proved.
+///
+/// # Errors
+/// As [`execute`].
+pub fn run_engine<R: Threads + Wait + Sync, E: Engine>(
+    rt: &R,
+    alloc: Global,
+    engine: &E,
+    workers: usize,
+    capacity: usize,
+) -> Result<Results, RunFault>
+    ensures { IfOk result (λ r. HoldsWhatWasSent (E.before engine.now) (E.after engine.now)
+        workers (sent_in r.closed) r.recorded) }
+{
+    each_worker_has_its_list();
+    execute(rt, alloc, engine, workers, capacity)
+}
+
+/// Counts events: every statistic is how many of them its selection picks.
+pub fn count_events(events: &Events<'_>) -> Statistics
+    ensures { All (IsCount events.now) (statistic_rows result) }
+{
+    events.statistics()
+}
+
+/// Picks events: those that the selection picks, in their order.
+///
+/// # Errors
+/// `AllocError` where a request for memory is refused.
+pub fn pick_events<'r>(
+    alloc: Global,
+    events: &Events<'r>,
+    selection: Selection,
+) -> Result<Events<'r>, AllocError>
+    ensures { IfOk result (λ picked.
+        events_of picked ≡ filter (selects selection events.now.recorded) (events_of events.now)) }
+{
+    events.pick(alloc, selection)
+}
+
+/// Matches events in order: a yes exactly where the conditions hold at increasing positions.
+///
+/// # Errors
+/// `AllocError` where a request for memory is refused.
+pub fn match_events(
+    alloc: Global,
+    events: &Events<'_>,
+    conditions: &[Condition],
+) -> Result<InOrder, AllocError>
+    ensures { IfOk result (λ answer.
+        (in_order_yes answer ≡ true) ↔ CanHoldInTurn (fits events.now) conditions.now) }
+{
+    match_in_order(alloc, events, conditions)
+}
+
+/// Reads a book's word: it is the sum of what its seats held at that moment, of which no resource
+/// had a writer beside another holder.
+pub fn read_locks(book: &Book, seat: &mut BookSeat) -> u64
+    requires { seat.old.book ≡ book.now }
+    ensures { (held : List (Option NeedView)) × (result ≡ sum_by held_word held)
+        × WritersAreAlone held }
+{
+    writers_are_alone();
+    book.look(seat)
+}
+
+/// Asks a question: what is written is the one answer that its words have about the input.
+///
+/// # Errors
+/// As [`ask`].
+pub fn ask_question<S: Source, T: Target>(
+    alloc: Global,
+    words: &[String],
+    source: &mut S,
+    target: &mut T,
+) -> Result<bool, AskFault>
+    ensures { IfOk result (λ is_yes. IfSome (S.remaining source.old) (λ input.
+        IsTheAnswer (map string_bytes words.now) input is_yes
+        (T.contents target.old) (T.contents target.new))) }
+{
+    answer_is_unique();
+    ask(alloc, words, source, target)
+}
+
+/// Runs a plan and writes its report, which is a function of the plan's bytes alone.
+///
+/// # Errors
+/// As [`plan_report`].
+pub fn report_plan<R: Threads + Wait + Sync, T: Target>(
+    rt: &R,
+    alloc: Global,
+    bytes: &[u8],
+    workers: usize,
+    target: &mut T,
+) -> Result<(), ReportFault>
+    ensures { OnOk result ((text : List ℕ) × (report_in bytes.now ≡ Some text)
+        × Appends (T.contents target.old) (T.contents target.new) text) }
+{
+    plan_report(rt, alloc, bytes, workers, target)
 }

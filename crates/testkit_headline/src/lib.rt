@@ -1,4 +1,4 @@
-//! The headline of README.md as one theorem.
+//! The headline of README.md as one theorem, and as what the calls promise.
 #![tactic(auto)]
 
 pub mod laws;

@@ -1,0 +1,5 @@
+use Rattle.testkit_headline.proofs.WitnessValues.{met}
+use Rattle.testkit_headline.proofs.laws.witnesses.Goals as goal
+
+pub returns : goal.returns
+returns c = met
