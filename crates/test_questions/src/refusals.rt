@@ -39,14 +39,14 @@ fn are_executed(alloc: Global, record: &Record) -> Option<bool> {
     Some(list.len() == 3 && list.failed(alloc).ok()?.len() == 1)
 }
 
-// Whether the test that ran overlaps its engine, and no other test.
+// Whether the test that ran overlaps its engine, and there is no other test that ran.
 fn is_overlapping(alloc: Global, record: &Record) -> Option<bool> {
     let events = Events::all(alloc, record).ok()?;
     let tests = events.tests(alloc).ok()?;
     let nobody = Condition::Failed(None);
     let of_all = exclusive(alloc, &events, &Condition::Started, &nobody).ok()?;
     let of_tests = exclusive(alloc, &tests, &Condition::Started, &nobody).ok()?;
-    Some(of_all == Exclusive::No(0, 1) && of_tests == Exclusive::Yes)
+    Some(of_all == Exclusive::No(0, 1) && of_tests == Exclusive::NoPair)
 }
 
 // Whether it is explained that the test that ran overlaps its engine.

@@ -35,12 +35,12 @@ fn answer_of_plan<R: Threads + Wait + Sync>(
     answer
 }
 
-/// In the demo plan class D locks a key, and runs one test.
+/// In the demo plan class D locks a key, and runs one test: there is no pair.
 #[test]
 fn locked_tests_of_the_demo_plan(rt: HostRuntime) {
     let writers = "all(test,id([class:D]))";
     let answer = answer_of_plan(&rt, rt.alloc(), demo_plan(), writers, "any()");
-    assert!(rt; answer == Some(Exclusive::Yes));
+    assert!(rt; answer == Some(Exclusive::NoPair));
 }
 
 // A plan of this many concurrent tests on one key, of which every third only reads it.

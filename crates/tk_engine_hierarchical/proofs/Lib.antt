@@ -3,5 +3,5 @@ pub mod Recorded
 pub mod Reported
 pub mod Stepped
 pub mod TreeRuns
-pub mod ChildrenRun
+pub mod DueKeys
 pub mod NodeSteps

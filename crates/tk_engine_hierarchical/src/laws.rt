@@ -1,6 +1,6 @@
 //! The laws of engines whose tests have bodies.
 ghost use Rattle.tk_query_lifecycle.specs.KeepsLifecycle.{KeepsLifecycle};
-ghost use Rattle.tk_query_lifecycle.specs.NeverRan.{EachChildRuns};
+ghost use Rattle.tk_query_lifecycle.specs.NeverRan.{EachDueKeyRuns};
 ghost use Rattle.tk_plan_laws.specs.Laws.{IsKept};
 ghost use Rattle.tk_engine_hierarchical.specs.Laws.{FollowsPlan, HasOutcomes, HaveTurns, IsRunOf, UnitsNest, UnitsRanTrees, test_rules};
 
@@ -57,13 +57,14 @@ pub fn turns<T: Tests + Sync>(engine: &Hierarchical<T>, results: &Results)
     lifecycle(engine, results);
 }
 
-/// Each static child of a descriptor that succeeds starts or is skipped, and `Kept` is the one
-/// answer of `Results::lifecycle` on the record of each run, whatever the engine's tests do.
-pub fn children_run<T: Tests + Sync>(engine: &Hierarchical<T>, results: &Results)
+/// Each static root, and each static child of a descriptor that succeeds, starts or is skipped, and
+/// `Kept` is the one answer of `Results::lifecycle` on the record of each run, whatever the engine's
+/// tests do.
+pub fn due_keys_run<T: Tests + Sync>(engine: &Hierarchical<T>, results: &Results)
     requires { IsRunOf engine.now.shape
         (test_rules (T.may_end engine.now.tests) (T.may_run engine.now.tests))
         results.now.recorded }
-    ensures children { EachChildRuns results.now.recorded }
+    ensures due { EachDueKeyRuns results.now.recorded }
     ensures kept { IsKept results.now.recorded }
 {
     engine.shows_shape();

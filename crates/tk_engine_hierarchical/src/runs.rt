@@ -11,7 +11,7 @@ ghost use Rattle.tk_engine_hierarchical.specs.Runs.{IsRunBy};
 ghost use Rattle.tk_engine_unit_events.specs.Shapes.{count_units};
 
 use crate::engines::Hierarchical;
-use crate::laws::{children_run, lifecycle, nesting, outcomes, steps, trees, turns};
+use crate::laws::{due_keys_run, lifecycle, nesting, outcomes, steps, trees, turns};
 use crate::tests::Tests;
 use std::alloc::Global;
 use std::sync::Wait;
@@ -36,7 +36,7 @@ fn shows_laws<T: Tests + Sync>(engine: &Hierarchical<T>, results: &Results)
         results.now.recorded }
 {
     lifecycle(engine, results);
-    children_run(engine, results);
+    due_keys_run(engine, results);
     turns(engine, results);
     outcomes(engine, results);
     steps(engine, results);

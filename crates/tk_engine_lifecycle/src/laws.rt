@@ -13,7 +13,8 @@ use tk_engine_execute::{Engine, Results};
 /// its units and in whatever order.
 ///
 /// `owner` says to which unit an id belongs. Each record that
-/// [`execute`](tk_engine_execute::execute) answers is such a run.
+/// [`execute`](tk_engine_execute::execute) answers is such a run. The law says nothing of static
+/// keys that neither start nor are skipped: `Kept` is the answer where each that is due does.
 pub fn runs_keep_lifecycle<E: Engine>(engine: &E, results: &Results)
     requires { (workers : ℕ)
         × IsRun (E.may engine.now) (E.table engine.now) (E.before engine.now)

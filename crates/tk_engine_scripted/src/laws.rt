@@ -1,7 +1,7 @@
 //! What holds of each run of a plan's engine.
 ghost use Rattle.std.specs.Prelude.{ℕ, length};
 ghost use Rattle.tk_query_lifecycle.specs.KeepsLifecycle.{KeepsLifecycle};
-ghost use Rattle.tk_query_lifecycle.specs.NeverRan.{EachChildRuns};
+ghost use Rattle.tk_query_lifecycle.specs.NeverRan.{EachDueKeyRuns};
 ghost use Rattle.tk_report_text.specs.Labels.{events, labels, name};
 ghost use Rattle.tk_plan_laws.specs.Laws.{IsKept};
 ghost use Rattle.tk_plan_laws.specs.Listening.{Listens, ListensByKey};
@@ -31,14 +31,14 @@ pub fn listener(engine: &Scripted, results: &Results)
     tk_plan_laws::laws::listener_by_key();
 }
 
-/// Each record that is a run of the engine keeps the lifecycle, each static child of what succeeds
-/// runs or is skipped in it, and `Kept` is the one answer of `Results::lifecycle` on it. Each record
-/// that `execute` answers for the engine is such a run.
+/// Each record that is a run of the engine keeps the lifecycle, its root, and each static child of
+/// what succeeds, runs or is skipped in it, and `Kept` is the one answer of `Results::lifecycle` on
+/// it. Each record that `execute` answers for the engine is such a run.
 pub fn lifecycle(engine: &Scripted, results: &Results)
     requires { (workers : ℕ)
         × IsRunOf engine.now.nodes engine.now.table workers results.now.recorded }
     ensures keeps { KeepsLifecycle results.now.recorded }
-    ensures children { EachChildRuns results.now.recorded }
+    ensures due { EachDueKeyRuns results.now.recorded }
     ensures kept { IsKept results.now.recorded }
 {
     let _ = results;

@@ -7,3 +7,4 @@ mod FirstFits
 mod Stuck
 pub mod OneExplanation
 mod SearchLemmas
+mod Readers

@@ -1,5 +1,5 @@
 -- The same events and the same conditions have one explanation.
-use Rattle.std.proofs.Common.{◌≡◌, ℕ, ◌+◌, Bool, List, [], ◌∷◌, ◌++◌, take, Some, None, Option, refl, sym, ap, ap₂, ◌∙◌, subst, arith}
+use Rattle.std.proofs.Common.{◌≡◌, ℕ, Bool, List, [], ◌∷◌, ◌++◌, take, Some, None, Option, refl, sym, ap, ap₂, ◌∙◌, subst, arith}
 use Rattle.std.specs.Prelude.{codes}
 use Rattle.std.specs.List.{flat_map}
 use Rattle.std.proofs.lemmas.Bool.{true≢false}
@@ -29,7 +29,7 @@ use Rattle.tk_query.proofs.AnswerIsUnique.{as_many}
 use Rattle.tk_query.proofs.ExclusionLemmas.{one_span}
 use Rattle.tk_query_nearest.specs.Nearness.{IsNearest}
 use Rattle.tk_query_nearest.proofs.NearestIsUnique.{one_nearest}
-use Rattle.tk_explanations.specs.Collisions.{AreCollisionRows, ExplainsExclusive, IsExclusiveExplanation, StartsAt, overlap_rows}
+use Rattle.tk_explanations.specs.Collisions.{AreCollisionRows, ExplainsExclusive, IsExclusiveExplanation, StartsAt, holder_rows, overlap_rows, writers_said}
 use Rattle.tk_explanations.specs.Laws.{IsUnique}
 use Rattle.tk_explanations.specs.Lifecycles.{ExplainsLifecycle, IsLifecycleExplanation, is_kept, lifecycle_rows}
 use Rattle.tk_explanations.specs.Lists.{ExplainsExecutions, ExplainsList, listed_execution}
@@ -151,16 +151,32 @@ one_execution_list asked a b s t x y =
 one_start : (asked : Selected) (p : ℕ) (x y : Execution) → StartsAt asked p x → StartsAt asked p y → x ≡ y
 one_start asked p x y a b = one_span (step_at asked) x y a.span b.span (a.first ∙ sym b.first)
 
-collision_below : (asked : Selected) (answer : Exclusive) (xs ys : List Row) → AreCollisionRows asked answer xs → AreCollisionRows asked answer ys → xs ≡ ys
-collision_below asked exclusives.Yes xs ys a b = a ∙ sym b
-collision_below asked (exclusives.No p q) xs ys a b =
-    a.4 ∙ ap₂ (λ (x y : Execution). overlap_rows x y) (one_start asked p a.0 b.0 a.2 b.2) (one_start asked q a.1 b.1 a.3 b.3) ∙ sym b.4
+module _ (asked : Selected) (writers readers : Condition) where
+  collision_below :
+      (answer : Exclusive) (xs ys : List Row) →
+      AreCollisionRows asked writers readers answer xs →
+      AreCollisionRows asked writers readers answer ys → xs ≡ ys
+  collision_below exclusives.Yes xs ys a b = a ∙ sym b
+  collision_below (exclusives.No p q) xs ys a b =
+      let said = writers_said asked writers readers p q in
+      a.4
+      ∙ ap₂ (λ (x y : Execution). overlap_rows x y said)
+      (one_start asked p a.0 b.0 a.2 b.2) (one_start asked q a.1 b.1 a.3 b.3)
+      ∙ sym b.4
+  collision_below exclusives.NoPair xs ys a b =
+      a.2
+      ∙ ap (λ (l : List Execution). holder_rows asked l writers readers)
+      (one_list asked a.0 b.0 a.1 b.1)
+      ∙ sym b.2
 
-exclusive_rows_one : (asked : Selected) (writers readers : Condition) → AreOne (IsExclusiveExplanation asked writers readers)
-exclusive_rows_one asked writers readers a b xs ys x y =
-    let same = one_exclusive asked writers readers x.0 y.0 x.1 y.1 in
-    let below = collision_below asked y.0 x.3 y.3 (subst (λ (e : Exclusive). AreCollisionRows asked e x.3) same x.4) y.4 in
-    (x.2 ∙ ap (λ (e : Exclusive). exclusive_yes e) same ∙ sym y.2, x.5 ∙ ap₂ (λ (e : Exclusive) (l : List Row). Line (exclusive_text e) ∷ l) same below ∙ sym y.5)
+  exclusive_rows_one : AreOne (IsExclusiveExplanation asked writers readers)
+  exclusive_rows_one a b xs ys x y =
+      let same = one_exclusive asked writers readers x.0 y.0 x.1 y.1 in
+      let Below : Exclusive → Type 0 = λ e. AreCollisionRows asked writers readers e x.3 in
+      let below = collision_below y.0 x.3 y.3 (subst Below same x.4) y.4 in (
+        x.2 ∙ ap (λ (e : Exclusive). exclusive_yes e) same ∙ sym y.2,
+        x.5 ∙ ap₂ (λ (e : Exclusive) (l : List Row). Line (exclusive_text e) ∷ l) same below ∙ sym y.5,
+      )
 
 pub one_exclusion : (asked : Selected) (writers readers : Condition) → IsUnique (ExplainsExclusive asked writers readers)
 one_exclusion asked writers readers = one_text (IsExclusiveExplanation asked writers readers) asked.recorded (exclusive_rows_one asked writers readers)

@@ -77,12 +77,12 @@ abbrev pub success_of : Recorded → Option ℕ → Option EventAt
 success_of r None = None
 success_of r (Some key) = first_before (length r.entries) (succeeds key) r
 
--- the first successful finish of the parent of a descriptor
+-- the first successful finish of the parent of a descriptor; a root has none
 abbrev pub parent_success : Recorded → Option Descriptor → Option EventAt
 parent_success r None = None
 parent_success r (Some d) = success_of r (key_before r (length r.entries) (parent_text d))
 
--- that the key never ran, and the row of the finish of its parent
+-- that the key never ran, and the row of the finish of its parent, if it has one
 abbrev pub never_ran_rows : ℕ → Option EventAt → List Row
 never_ran_rows key finish = Sentence (NeverRan key finish) ∷ event_rows finish
 

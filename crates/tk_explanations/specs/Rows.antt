@@ -34,8 +34,11 @@ use Rattle.tk_explanations.specs.declared.rows.Row.TheVariants.{
   NoneLeft,
   Counts,
   Overlap,
+  Executions,
   Sentence,
 }
+use Rattle.tk_explanations.specs.declared.rows.Writers.{Writers}
+use Rattle.tk_explanations.specs.declared.rows.Writers.TheVariants.{Unsaid, First, Second, Both}
 
 -- the line of an event in a record's text, three blanks, and its descriptor
 abbrev pub event_text : Recorded → Entry → List ℕ
@@ -59,13 +62,22 @@ span_text r x =
     descriptor_text (desc r x.key) ++ codes " (" ++ decimal x.first ++ codes " to "
     ++ decimal x.last ++ codes ")"
 
+-- which of two executions are writers'
+abbrev pub writers_text : Writers → List ℕ
+writers_text Unsaid = []
+writers_text First = codes ", the first as a writer"
+writers_text Second = codes ", the second as a writer"
+writers_text Both = codes ", both as writers"
+
 abbrev pub row_text : Recorded → Row → List ℕ
 row_text r (Line text) = text
 row_text r (Condition k text) = decimal k ++ blank ∷ text
 row_text r (Event position note) = event_row r position (slice_get r.entries position) note
 row_text r NoneLeft = codes "    no event is left"
 row_text r (Counts n m) = decimal n ++ codes " conditions, " ++ decimal m ++ codes " events"
-row_text r (Overlap x y) = span_text r x ++ codes " and " ++ span_text r y ++ codes " overlap"
+row_text r (Overlap x y said) =
+    span_text r x ++ codes " and " ++ span_text r y ++ codes " overlap" ++ writers_text said
+row_text r (Executions n) = codes "    " ++ decimal n ++ codes " executions"
 row_text r (Sentence sentence) = sentence_text r sentence
 
 -- a row as a line

@@ -1,5 +1,5 @@
 -- The sentences about a record that doesn't keep the lifecycle, as text.
-use Rattle.std.specs.Prelude.{ℕ, List, ◌++◌, codes, Option, Some, None}
+use Rattle.std.specs.Prelude.{ℕ, List, [], ◌++◌, codes, Option, Some, None}
 use Rattle.std.specs.Fmt.{decimal}
 use Rattle.tk_events.specs.declared.kinds.Kind.{Kind}
 use Rattle.tk_events.specs.declared.kinds.Kind.TheVariants.{
@@ -79,15 +79,16 @@ unfinished_text r key (Some x) =
     descriptor_text (desc r key) ++ codes " started at " ++ decimal x.position
     ++ codes " and never finished"
 
--- what is said of the parent of a key that never ran
+-- what is said of the parent of a key that never ran; of a root nothing
 abbrev pub success_text : Recorded → Option EventAt → List ℕ
-success_text r None = codes "succeeded"
+success_text r None = []
 success_text r (Some x) =
-    descriptor_text (desc r x.key) ++ codes " succeeded at " ++ decimal x.position
+    codes ", but its parent " ++ descriptor_text (desc r x.key) ++ codes " succeeded at "
+    ++ decimal x.position
 
 abbrev pub sentence_text : Recorded → Sentence → List ℕ
 sentence_text r (Breaks x cause) = event_phrase r x ++ codes ", but " ++ cause_text r cause
 sentence_text r (NeverFinished key start) = unfinished_text r key start
 sentence_text r (NeverRan key finish) =
-    descriptor_text (desc r key) ++ codes " neither started nor was skipped, but its parent "
+    descriptor_text (desc r key) ++ codes " neither started nor was skipped"
     ++ success_text r finish

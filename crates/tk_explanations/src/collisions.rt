@@ -1,19 +1,24 @@
 //! Why executions that conflict did not keep away from each other.
-ghost use Rattle.std.specs.Prelude.{◌≡◌, ◌++◌, true, IfOk, OnOk, IsErrOf};
+ghost use Rattle.std.specs.Prelude.{◌≡◌, ◌++◌, true, count_by, IfOk, OnOk, IsErrOf};
 ghost use Rattle.std.specs.List.{find};
+ghost use Rattle.tk_query_conditions.specs.CondOf.{cond_of};
+ghost use Rattle.tk_query.specs.Exclusive.{IsExclusive};
 ghost use Rattle.tk_query.specs.ExecutionSteps.{step_at};
 ghost use Rattle.tk_query.specs.Executions.{AreExecutions};
 ghost use Rattle.tk_query.specs.declared.execution.Execution.{Execution};
 ghost use Rattle.tk_explanations.specs.Explained.{IsExplained};
-ghost use Rattle.tk_explanations.specs.Collisions.{ExplainsExclusive, IsExclusiveExplanation, StartsAt, overlap_rows};
-ghost use Rattle.tk_explanations.specs.steps.Collisions.{is_from};
+ghost use Rattle.tk_explanations.specs.Collisions.{AreCollisionRows, ExplainsExclusive, IsExclusiveExplanation, StartsAt, held_rows, holder_rows, names_some, overlap_rows, writers_said};
+ghost use Rattle.tk_explanations.specs.steps.Collisions.{is_flagged, is_from};
+ghost use Rattle.tk_explanations.specs.steps.MatchRows.{AddsRows};
 
 use crate::explanations::Explanation;
 use crate::faults::ExplainFault;
-use crate::rows::{Note, Row};
+use crate::match_rows::add_condition;
+use crate::rows::{Note, Row, Writers};
 use std::alloc::{AllocError, Global};
 use tk_ids::Text;
-use tk_query::{Exclusive, Execution, Executions, exclusive, executions};
+use tk_lanes::Flags;
+use tk_query::{Ending, Exclusive, Execution, Executions, exclusive, executions, fitting};
 use tk_query_conditions::Condition;
 use tk_record::Events;
 use tk_streams::Target;
@@ -58,17 +63,128 @@ fn starting_at_both(
 }
 
 // Adds that two executions overlap, and the rows of their four events.
-fn add_overlap(rows: &mut Vec<Row>, first: Execution, second: Execution) -> Result<(), AllocError>
-    ensures { OnOk result (rows.new.items ≡ rows.old.items ++ overlap_rows first second) }
+fn add_overlap(
+    rows: &mut Vec<Row>,
+    first: Execution,
+    second: Execution,
+    said: Writers,
+) -> Result<(), AllocError>
+    ensures { OnOk result (rows.new.items ≡ rows.old.items ++ overlap_rows first second said) }
 {
     let sooner = first.last.min(second.last);
     let later = first.last.max(second.last);
-    rows.push(Row::Overlap(first, second))?;
+    rows.push(Row::Overlap(first, second, said))?;
     rows.push(Row::Event(first.first, Note::Nothing))?;
     rows.push(Row::Event(second.first, Note::Nothing))?;
     rows.push(Row::Event(sooner, Note::Nothing))?;
     rows.push(Row::Event(later, Note::Nothing))?;
     Ok(())
+}
+
+// Whether a condition of readers stands: any but `any()`, which holds of no event.
+fn names_some(readers: &Condition) -> bool
+    ensures { result ≡ names_some (cond_of readers.now) }
+{
+    match readers {
+        Condition::Any(members) => !members.is_empty(),
+        _ => true,
+    }
+}
+
+// What is said of which of the executions that start at these positions are writers'.
+fn writers_said(
+    alloc: Global,
+    events: &Events<'_>,
+    writers: &Condition,
+    readers: &Condition,
+    first: usize,
+    second: usize,
+) -> Result<Writers, AllocError>
+    ensures { IfOk result (λ said.
+        said ≡ writers_said events.now writers.now readers.now first second) }
+{
+    if !names_some(readers) {
+        return Ok(Writers::Unsaid);
+    }
+    let flags = fitting(alloc, events, writers)?;
+    match (flags.is_set(first), flags.is_set(second)) {
+        (true, true) => Ok(Writers::Both),
+        (true, false) => Ok(Writers::First),
+        (false, _) => Ok(Writers::Second),
+    }
+}
+
+// How many of the executions are a start and a finish, with the start at a position of a set flag.
+fn count_held(list: &Executions, flags: &Flags) -> usize
+    ensures { result ≡ count_by (is_flagged flags.now) list.now }
+{
+    list.iter()
+        .filter(|x| x.ending != Ending::Skipped && flags.is_set(x.first))
+        .count()
+}
+
+// Adds the row of a condition, and of how many executions it holds at the start.
+fn add_held(
+    alloc: Global,
+    rows: &mut Vec<Row>,
+    events: &Events<'_>,
+    list: &Executions,
+    number: usize,
+    condition: &Condition,
+) -> Result<(), AllocError>
+    ensures { OnOk result (rows.new.items
+        ≡ rows.old.items ++ held_rows events.now list.now number condition.now) }
+{
+    let flags = fitting(alloc, events, condition)?;
+    add_condition(rows, alloc, number, condition)?;
+    rows.push(Row::Executions(count_held(list, &flags)))?;
+    Ok(())
+}
+
+// Adds of how many executions each condition holds at the start.
+fn add_holders(
+    alloc: Global,
+    rows: &mut Vec<Row>,
+    events: &Events<'_>,
+    list: &Executions,
+    writers: &Condition,
+    readers: &Condition,
+) -> Result<(), AllocError>
+    ensures { OnOk result (rows.new.items
+        ≡ rows.old.items ++ holder_rows events.now list.now writers.now readers.now) }
+{
+    add_held(alloc, rows, events, list, 0, writers)?;
+    if names_some(readers) {
+        add_held(alloc, rows, events, list, 1, readers)?;
+    }
+    Ok(())
+}
+
+// Adds what is said below the answer.
+fn add_below(
+    alloc: Global,
+    rows: &mut Vec<Row>,
+    events: &Events<'_>,
+    writers: &Condition,
+    readers: &Condition,
+    answer: Exclusive,
+) -> Result<(), AllocError>
+    requires { IsExclusive events.now writers.now readers.now answer }
+    ensures { OnOk result (AddsRows (AreCollisionRows events.now writers.now readers.now answer)
+        rows.old.items rows.new.items) }
+{
+    match answer {
+        Exclusive::Yes => Ok(()),
+        Exclusive::No(first, second) => {
+            let said = writers_said(alloc, events, writers, readers, first, second)?;
+            let (one, other) = starting_at_both(alloc, events, first, second)?;
+            add_overlap(rows, one, other, said)
+        }
+        Exclusive::NoPair => {
+            let list = executions(alloc, events)?;
+            add_holders(alloc, rows, events, &list, writers, readers)
+        }
+    }
 }
 
 fn explain(
@@ -84,10 +200,7 @@ fn explain(
     let text = format!(in alloc; "{found}")?;
     let mut rows = Vec::new(alloc);
     rows.push(Row::Line(Text::from(text)))?;
-    if let Exclusive::No(first, second) = found {
-        let (first, second) = starting_at_both(alloc, events, first, second)?;
-        add_overlap(&mut rows, first, second)?;
-    }
+    add_below(alloc, &mut rows, events, writers, readers, found)?;
     Ok(Explanation {
         is_yes: found.is_yes(),
         rows,
@@ -95,7 +208,9 @@ fn explain(
 }
 
 /// Writes whether executions that conflict kept away from each other, as [`exclusive`] answers it.
-/// Below a no stand the two executions that overlap, and their four events.
+/// Below a no stand the two executions that overlap, which of them are writers', and their four
+/// events. Where no two conflict, it stands below of how many executions each condition holds at the
+/// start. Of readers nothing is said where their condition is `any()`, which holds of no event.
 ///
 /// # Errors
 /// `Memory` where a request for memory is refused, and `Device` where the target broke.

@@ -7,11 +7,11 @@ ghost use Rattle.tk_streams.specs.Pieces.{Adds, outgoing};
 ghost use Rattle.tk_streams.specs.Stream.{AppendsPrefix};
 ghost use Rattle.tk_record.specs.Record.{entry_of_view};
 ghost use Rattle.tk_explanations.specs.steps.Explained.{IsWritten};
-ghost use Rattle.tk_explanations.specs.Rows.{event_row, note_text, row_line, row_text, rows_text, span_text};
+ghost use Rattle.tk_explanations.specs.Rows.{event_row, note_text, row_line, row_text, rows_text, span_text, writers_text};
 
 use crate::faults::ExplainFault;
 use crate::pieces::{put_descriptor_of, put_event_text, put_number};
-use crate::rows::{Note, Row};
+use crate::rows::{Note, Row, Writers};
 use crate::sentence_texts::put_sentence;
 use tk_query::Execution;
 use tk_record::{EntryView, Record};
@@ -107,21 +107,45 @@ fn put_span<T: Target>(piece: &mut Piece, target: &mut T, record: &Record, execu
     piece.put(target, b")");
 }
 
+// The words of which of two executions are writers'.
+fn writers_words(said: Writers) -> &'static str
+    ensures { result.now ≡ writers_text said }
+{
+    match said {
+        Writers::Unsaid => "",
+        Writers::First => ", the first as a writer",
+        Writers::Second => ", the second as a writer",
+        Writers::Both => ", both as writers",
+    }
+}
+
 fn put_overlap<T: Target>(
     piece: &mut Piece,
     target: &mut T,
     record: &Record,
     first: Execution,
     second: Execution,
+    said: Writers,
 )
     ensures { Adds (outgoing (T.contents target.old) (T.broken target.old) piece.old)
         (outgoing (T.contents target.new) (T.broken target.new) piece.new)
-        (row_text «record».now (Row.Overlap first second)) }
+        (row_text «record».now (Row.Overlap first second said)) }
 {
     put_span(piece, target, record, first);
     piece.put(target, b" and ");
     put_span(piece, target, record, second);
     piece.put(target, b" overlap");
+    piece.put(target, writers_words(said).as_bytes());
+}
+
+fn put_executions<T: Target>(piece: &mut Piece, target: &mut T, number: usize)
+    ensures { Adds (outgoing (T.contents target.old) (T.broken target.old) piece.old)
+        (outgoing (T.contents target.new) (T.broken target.new) piece.new)
+        (codes "    " ++ decimal number ++ codes " executions") }
+{
+    piece.put(target, b"    ");
+    put_number(piece, target, number as u64);
+    piece.put(target, b" executions");
 }
 
 fn put_row<T: Target>(piece: &mut Piece, target: &mut T, record: &Record, row: &Row)
@@ -135,7 +159,10 @@ fn put_row<T: Target>(piece: &mut Piece, target: &mut T, record: &Record, row: &
         Row::Event(position, note) => put_event_row(piece, target, record, *position, note),
         Row::NoneLeft => piece.put(target, b"    no event is left"),
         Row::Counts(conditions, events) => put_counts(piece, target, *conditions, *events),
-        Row::Overlap(first, second) => put_overlap(piece, target, record, *first, *second),
+        Row::Overlap(first, second, said) => {
+            put_overlap(piece, target, record, *first, *second, *said)
+        }
+        Row::Executions(number) => put_executions(piece, target, *number),
         Row::Sentence(sentence) => put_sentence(piece, target, record, sentence),
     }
 }

@@ -15,6 +15,19 @@ pub(crate) enum Note {
     NotAfter(usize),
 }
 
+/// What is said of which of two executions are writers'.
+#[derive(Clone, Copy, Debug)]
+pub(crate) enum Writers {
+    /// Nothing, as there are no readers.
+    Unsaid,
+    /// The first of them is.
+    First,
+    /// The second of them is.
+    Second,
+    /// Both of them are.
+    Both,
+}
+
 /// A line of an explanation, but for its line feed. Positions are those of the record.
 #[derive(Debug, Drop)]
 pub(crate) enum Row {
@@ -29,7 +42,9 @@ pub(crate) enum Row {
     /// How many conditions there are, and how many events.
     Counts(usize, usize),
     /// These executions overlap.
-    Overlap(Execution, Execution),
+    Overlap(Execution, Execution, Writers),
+    /// There are so many executions.
+    Executions(usize),
     /// Why the record doesn't keep the lifecycle.
     Sentence(Sentence),
 }

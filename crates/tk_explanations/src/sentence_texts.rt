@@ -224,9 +224,10 @@ fn put_never_finished<T: Target>(
 fn put_succeeded_at<T: Target>(piece: &mut Piece, target: &mut T, record: &Record, event: EventAt)
     ensures { Adds (outgoing (T.contents target.old) (T.broken target.old) piece.old)
         (outgoing (T.contents target.new) (T.broken target.new) piece.new)
-        (descriptor_text (desc «record».now event.key) ++ codes " succeeded at "
-        ++ decimal event.position) }
+        (codes ", but its parent " ++ descriptor_text (desc «record».now event.key)
+        ++ codes " succeeded at " ++ decimal event.position) }
 {
+    piece.put(target, b", but its parent ");
     put_descriptor_of(piece, target, record, event.key);
     piece.put(target, b" succeeded at ");
     put_number(piece, target, event.position as u64);
@@ -242,9 +243,8 @@ fn put_success<T: Target>(
         (outgoing (T.contents target.new) (T.broken target.new) piece.new)
         (success_text «record».now finish) }
 {
-    match finish {
-        Some(event) => put_succeeded_at(piece, target, record, event),
-        None => piece.put(target, b"succeeded"),
+    if let Some(event) = finish {
+        put_succeeded_at(piece, target, record, event);
     }
 }
 
@@ -260,7 +260,7 @@ fn put_never_ran<T: Target>(
         (sentence_text «record».now (Sentence.NeverRan key finish)) }
 {
     put_descriptor_of(piece, target, record, key);
-    piece.put(target, b" neither started nor was skipped, but its parent ");
+    piece.put(target, b" neither started nor was skipped");
     put_success(piece, target, record, finish);
 }
 

@@ -42,6 +42,7 @@ pub(crate) enum Sentence {
     Breaks(EventAt, Cause),
     /// The key never finished after its last start, which is this event.
     NeverFinished(u32, Option<EventAt>),
-    /// The key neither started nor was skipped, though this event finished its parent.
+    /// The key neither started nor was skipped, though this event finished its parent, if it has
+    /// one.
     NeverRan(u32, Option<EventAt>),
 }

@@ -16,7 +16,7 @@ pub mod ListenerSteps
 pub mod OneKey
 pub mod ByKey
 pub mod RecordLifecycle
-pub mod ChildrenRun
+pub mod DueKeys
 pub mod Turns
 pub mod Stamps
 pub mod Samples

@@ -1,4 +1,4 @@
--- In a record that keeps the lifecycle, in which each static key has its turn, no static child of what succeeds is left out.
+-- In a record that keeps the lifecycle, in which each static key has its turn, no static key that is due is left out.
 use Rattle.std.proofs.Common.{◌≡◌, ℕ, zero, suc, ◌+◌, ◌-◌, ◌<◌, ◌≤◌, ◌⊎◌, ⊎_elim, inl, inr, true, false, ◌||◌, not, List, [], ◌∷◌, ◌++◌, length, take, Some, slice_get, if◌then◌else◌, refl, sym, ap, ◌∙◌, subst, arith, eq-eqb, eqb-true}
 use Rattle.std.specs.Prelude.{◌==◌}
 use Rattle.std.specs.Option.{option_or}
@@ -18,7 +18,7 @@ use Rattle.tk_record.specs.Record.{IsRecord}
 use Rattle.tk_record.specs.Recorded.{Recorded}
 use Rattle.tk_query_lifecycle.specs.Lifecycle.{HasId, first_entries, has_event, has_run, is_event}
 use Rattle.tk_query_lifecycle.specs.KeepsLifecycle.{IsWhole, KeepsLifecycle, steps_of}
-use Rattle.tk_query_lifecycle.specs.NeverRan.{EachChildRuns, NeverRuns}
+use Rattle.tk_query_lifecycle.specs.NeverRan.{EachDueKeyRuns, NeverRuns, ParentSucceeds}
 use Rattle.tk_query_lifecycle.proofs.FirstEntries.{desc_first, first_more, its_id}
 use Rattle.tk_query_lifecycle.proofs.IdMapLemmas.{ids_first, known_or_new}
 use Rattle.tk_query_lifecycle.proofs.ListLemmas.{there}
@@ -186,53 +186,60 @@ module _ (r : Recorded) (is : IsRecord r) (keeps : KeepsLifecycle r) where
 
     module _ (some : (key : ℕ) (id : List SegmentView) → slice_get (ids_of r.table) key ≡ Some id → 0 < length id) (key : ℕ) (h : NeverRuns r key) where
       abbrev own : List SegmentView
-      own = h.child.id
-
-      abbrev end : Entry
-      end = h.succeeds.event
-
-      end_id : HasId r end.event.key (parent_of own)
-      end_id = subst (λ k. HasId r k (parent_of own)) (sym h.succeeds.of_key) (record { descriptor = h.above; described = h.described; id_is = h.is_parent })
-
-      end_of : (above : ℕ) → end.event.key ≡ above → has_event Finished above r.entries ≡ true
-      end_of above same = any_from (is_event Finished above) r.entries h.succeeds.position end h.succeeds.stands
-          (and_from (of_kind Finished end) (end.event.key == above) (finish_of end.event.kind end.event.payload h.succeeds.successful) (eq-eqb end.event.key above same))
+      own = h.descriptor.id
 
       own_id : (id : List SegmentView) → slice_get (ids_of r.table) key ≡ Some id → own ≡ id
       own_id id its =
           let d = of_map (λ (x : Descriptor). x.id) r.table key id its in
-          ap (λ (x : Descriptor). x.id) (same_Some h.child d.0 (sym h.static ∙ d.1)) ∙ d.2
+          ap (λ (x : Descriptor). x.id) (same_Some h.descriptor d.0 (sym h.static ∙ d.1)) ∙ d.2
 
-      by_length : (above : ℕ) (a : List SegmentView) → has_event Skipped above r.entries ≡ true → slice_get (ids_of r.table) above ≡ Some a → take (length a) own ≡ a
-          → (n : ℕ) → length own ≡ length a + suc n → ⊥
-      by_length above a skipped its begins zero long =
-          let same : parent_of own ≡ a = ap (λ n. take n own) (let one : length own - 1 ≡ length a = omega (arith, long) in one) ∙ begins in
-          let key_is = static_key a above end.event.key its (subst (HasId r end.event.key) same end_id) in
-          true≢false (sym (end_of above key_is) ∙ (skipped_key above skipped).1)
-      by_length above a skipped its begins (suc n) long =
-          let s = climb a n (parent_of own) h.succeeds.position end (some above a its)
-          (taken_again (length a) own (omega (arith, long)) ∙ begins)
-          (parent_length own ∙ (let one : length own - 1 ≡ length a + suc n = omega (arith, long) in one))
-          h.succeeds.stands end_id in
-          let key_is = static_key a above s.entry.event.key its s.its in
-          true≢false (sym (any_from (is_event Started above) r.entries s.position s.entry s.stands
-          (and_from (of_kind Started s.entry) (s.entry.event.key == above) s.starts (eq-eqb s.entry.event.key above key_is))) ∙ (skipped_key above skipped).0)
+      -- below what was skipped no parent succeeds
+      module _ (s : ParentSucceeds r own) where
+        abbrev end : Entry
+        end = s.succeeds.event
+
+        end_id : HasId r end.event.key (parent_of own)
+        end_id = subst (λ k. HasId r k (parent_of own)) (sym s.succeeds.of_key) (record { descriptor = s.above; described = s.described; id_is = s.is_parent })
+
+        end_of : (above : ℕ) → end.event.key ≡ above → has_event Finished above r.entries ≡ true
+        end_of above same = any_from (is_event Finished above) r.entries s.succeeds.position end s.succeeds.stands
+            (and_from (of_kind Finished end) (end.event.key == above) (finish_of end.event.kind end.event.payload s.succeeds.successful) (eq-eqb end.event.key above same))
+
+        by_length : (above : ℕ) (a : List SegmentView) → has_event Skipped above r.entries ≡ true → slice_get (ids_of r.table) above ≡ Some a → take (length a) own ≡ a
+            → (n : ℕ) → length own ≡ length a + suc n → ⊥
+        by_length above a skipped its begins zero long =
+            let same : parent_of own ≡ a = ap (λ n. take n own) (let one : length own - 1 ≡ length a = omega (arith, long) in one) ∙ begins in
+            let key_is = static_key a above end.event.key its (subst (HasId r end.event.key) same end_id) in
+            true≢false (sym (end_of above key_is) ∙ (skipped_key above skipped).1)
+        by_length above a skipped its begins (suc n) long =
+            let t = climb a n (parent_of own) s.succeeds.position end (some above a its)
+            (taken_again (length a) own (omega (arith, long)) ∙ begins)
+            (parent_length own ∙ (let one : length own - 1 ≡ length a + suc n = omega (arith, long) in one))
+            s.succeeds.stands end_id in
+            let key_is = static_key a above t.entry.event.key its t.its in
+            true≢false (sym (any_from (is_event Started above) r.entries t.position t.entry t.stands
+            (and_from (of_kind Started t.entry) (t.entry.event.key == above) t.starts (eq-eqb t.entry.event.key above key_is))) ∙ (skipped_key above skipped).0)
 
       not_below : IsUnderSkip r key → ⊥
       not_below u =
           let a = u.id in
           let b = u.below in
           let is : own ≡ a ++ b.0 ∷ b.1 = own_id u.own u.own_is ∙ b.2 in
-          by_length u.above a u.skipped u.its
-          (ap (take (length a)) is ∙ take_seam a (b.0 ∷ b.1))
-          (length b.1) (ap (λ (l : List SegmentView). length l) is ∙ length-append a (b.0 ∷ b.1))
+          let long : length own ≡ length a + suc (length b.1) = ap (λ (l : List SegmentView). length l) is ∙ length-append a (b.0 ∷ b.1) in
+          let above_some = some u.above a u.its in
+          ⊎_elim {C = ⊥}
+          (λ (root : length own ≡ 1). absurd (omega (arith, root, long, above_some)))
+          (λ (s : ParentSucceeds r own).
+          by_length s u.above a u.skipped u.its
+          (ap (take (length a)) is ∙ take_seam a (b.0 ∷ b.1)) (length b.1) long)
+          h.due
 
       not_turned : IsTurned r key → ⊥
       not_turned (inl ran) = turn r key ran h.no_turn
       not_turned (inr u) = not_below u
 
-    pub turned_children_run : ((key : ℕ) (id : List SegmentView) → slice_get (ids_of r.table) key ≡ Some id → 0 < length id) → ((key : ℕ) → key < length r.table → IsTurned r key) → EachChildRuns r
-    turned_children_run some turns key h = not_turned some key h (turns key (slice_get_within r.table key h.child h.static))
+    pub turned_keys_run : ((key : ℕ) (id : List SegmentView) → slice_get (ids_of r.table) key ≡ Some id → 0 < length id) → ((key : ℕ) → key < length r.table → IsTurned r key) → EachDueKeyRuns r
+    turned_keys_run some turns key h = not_turned some key h (turns key (slice_get_within r.table key h.descriptor h.static))
 
 -- a key with one of these lists of steps has run
 pub ran_by_steps : (r : Recorded) (key : ℕ) (ks : List Kind) → steps_of key r.entries ≡ ks → (has Started ks || has Skipped ks) ≡ true → has_run key r.entries ≡ true

@@ -5,7 +5,7 @@ use Rattle.tk_events.specs.declared.events.Event.{Event}
 use Rattle.tk_record.specs.Recorded.{Recorded}
 use Rattle.tk_record.specs.Entries.{desc}
 use Rattle.tk_query_lifecycle.specs.KeepsLifecycle.{KeepsLifecycle}
-use Rattle.tk_query_lifecycle.specs.NeverRan.{EachChildRuns}
+use Rattle.tk_query_lifecycle.specs.NeverRan.{EachDueKeyRuns}
 use Rattle.tk_query_lifecycle.specs.Lifecycle.{IsLifecycle}
 use Rattle.tk_query_lifecycle.specs.declared.lifecycle_rules.Lifecycle.{Lifecycle}
 use Rattle.tk_query_lifecycle.specs.declared.lifecycle_rules.Lifecycle.TheVariants.{Kept}
@@ -81,9 +81,10 @@ ListenerByKey = OfEachRun (λ nodes table r. ListensByKey (length table) (name r
 abbrev pub RunsKeepLifecycle : Type 0
 RunsKeepLifecycle = OfEachRun (λ nodes table r. KeepsLifecycle r)
 
--- in the record of a run each static child of what finishes successfully starts or is skipped
-abbrev pub ChildrenRun : Type 0
-ChildrenRun = OfEachRun (λ nodes table r. EachChildRuns r)
+-- In the record of a run each static key that is due starts or is skipped: the root, and each child
+-- of what finishes successfully.
+abbrev pub DueKeysRun : Type 0
+DueKeysRun = OfEachRun (λ nodes table r. EachDueKeyRuns r)
 
 -- `Kept` is what is said of the record's lifecycle, and nothing else is
 abbrev pub IsKept : Recorded → Type 0

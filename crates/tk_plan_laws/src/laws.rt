@@ -1,6 +1,6 @@
 //! Laws of runs of plans, which hold of the definitions alone.
 ghost use Rattle.tk_plan_laws.specs.Spines.{NodesArePlaced, SpineEmits, SpineKeepsLifecycle, SpineRuns};
-ghost use Rattle.tk_plan_laws.specs.Laws.{ChildrenRun, StampsArePositions, ScriptsArePlayable, NodesAreFound, ReportIsUnique, Listener, ListenerByKey, RunsKeepLifecycle, RunsAreKept};
+ghost use Rattle.tk_plan_laws.specs.Laws.{DueKeysRun, StampsArePositions, ScriptsArePlayable, NodesAreFound, ReportIsUnique, Listener, ListenerByKey, RunsKeepLifecycle, RunsAreKept};
 
 use tk_query_lifecycle::laws::{kept_by_its_events, lifecycle_is_unique};
 
@@ -36,11 +36,11 @@ pub fn listener_by_key()
     ensures { ListenerByKey }
 {}
 
-/// Every run of a plan keeps the lifecycle, each child of what succeeds runs or is skipped, and
-/// `Kept` is the one answer of `lifecycle` on it.
+/// Every run of a plan keeps the lifecycle, its root, and each child of what succeeds, runs or is
+/// skipped, and `Kept` is the one answer of `lifecycle` on it.
 pub fn lifecycle()
     ensures keeps { RunsKeepLifecycle }
-    ensures children { ChildrenRun }
+    ensures due { DueKeysRun }
     ensures kept { RunsAreKept }
 {
     kept_by_its_events();

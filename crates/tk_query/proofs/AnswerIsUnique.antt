@@ -153,8 +153,19 @@ one_list asked xs ys a b = same_lists xs ys a.order b.order (λ z has. (b.each z
 
 pub one_exclusive : ExclusiveIsUnique
 one_exclusive asked writers readers exclusive.Yes exclusive.Yes h k = refl
-one_exclusive asked writers readers exclusive.Yes (exclusive.No p q) h k = absurd (h k.collide.x k.collide.y k.collide.collide)
-one_exclusive asked writers readers (exclusive.No p q) exclusive.Yes h k = absurd (k h.collide.x h.collide.y h.collide.collide)
+one_exclusive asked writers readers exclusive.Yes (exclusive.No p q) h k =
+    absurd (h.1 k.collide.x k.collide.y k.collide.collide)
+one_exclusive asked writers readers exclusive.Yes exclusive.NoPair h k =
+    absurd (k h.0.x h.0.y h.0.pair)
+one_exclusive asked writers readers exclusive.NoPair exclusive.Yes h k =
+    absurd (h k.0.x k.0.y k.0.pair)
+one_exclusive asked writers readers exclusive.NoPair exclusive.NoPair h k = refl
+one_exclusive asked writers readers exclusive.NoPair (exclusive.No p q) h k =
+    absurd (h k.collide.x k.collide.y k.collide.collide.pair)
+one_exclusive asked writers readers (exclusive.No p q) exclusive.NoPair h k =
+    absurd (k h.collide.x h.collide.y h.collide.collide.pair)
+one_exclusive asked writers readers (exclusive.No p q) exclusive.Yes h k =
+    absurd (k.1 h.collide.x h.collide.y h.collide.collide)
 one_exclusive asked writers readers (exclusive.No p q) (exclusive.No i j) h k =
     let up : q ≤ j = h.least_second i j k.order k.collide in
     let down : j ≤ q = k.least_second p q h.order h.collide in

@@ -1,14 +1,14 @@
 -- Executions by the positions of their starts, and those that conflict and overlap.
-use Rattle.std.proofs.Common.{◌≡◌, ◌≢◌, ℕ, zero, suc, ◌<◌, ◌≤◌, ◌⊎◌, Bool, true, false, ◌&&◌, ◌||◌, List, [], ◌∷◌, length, get_or, set, Option, Some, refl, sym, ap, ◌∙◌, subst, arith, inl, inr, ⊎_elim}
+use Rattle.std.proofs.Common.{◌≡◌, ℕ, zero, suc, ◌<◌, ◌≤◌, ◌⊎◌, Bool, true, false, ◌&&◌, ◌||◌, List, [], ◌∷◌, length, get_or, set, Option, Some, refl, sym, ap, ◌∙◌, subst, arith, inl, inr, ⊎_elim}
 use Rattle.std.specs.Prelude.{nat_lt}
 use Rattle.std.specs.List.{Contains}
-use Rattle.std.proofs.lemmas.Bool.{cases_lt, cases_order, cases_eq, true≢false, ltb-true, lt-ltb, and_parts, and_from, or_left, or_right}
+use Rattle.std.proofs.lemmas.Bool.{cases_lt, cases_order, cases_eq, true≢false, ltb-true, lt-ltb, and_parts, and_from, or_cases, or_left, or_right}
 use Rattle.std.proofs.lemmas.List.{get_or-set_same, get_or-set_other, get_or_past, length-set}
 use Rattle.std.proofs.lemmas.Option.{same_Some, none-some}
 use Rattle.tk_record.specs.Selections.{Selected}
 use Rattle.tk_query_conditions.specs.declared.conditions.Condition.{Condition}
 use Rattle.tk_query.specs.declared.answers.Exclusive.{Exclusive}
-use Rattle.tk_query.specs.declared.answers.Exclusive.TheVariants.{Yes, No}
+use Rattle.tk_query.specs.declared.answers.Exclusive.TheVariants.{Yes, No, NoPair}
 use Rattle.tk_query.specs.declared.exclusion.Holders.{Holders}
 use Rattle.tk_query.specs.declared.execution.Ending.{Ending}
 use Rattle.tk_query.specs.declared.execution.Execution.{Execution}
@@ -16,11 +16,12 @@ use Rattle.tk_query.specs.declared.execution_steps.Transition.TheVariants.{Start
 use Rattle.tk_query.specs.declared.execution_steps.ExecutionStep.{ExecutionStep}
 use Rattle.tk_query.specs.declared.pairing.Pairing.{Pairing}
 use Rattle.tk_query.specs.Asked.{fits}
-use Rattle.tk_query.specs.Exclusive.{Collide, CollideAt, IsExclusive, conflict}
+use Rattle.tk_query.specs.Fitting.{TellFits}
+use Rattle.tk_query.specs.Exclusive.{ArePair, Collide, CollideAt, IsExclusive, SomePair, conflict}
 use Rattle.tk_query.specs.ExecutionSteps.{step_at}
 use Rattle.tk_query.specs.Executions.{IsSpan, IsSkip, IsExecution}
-use Rattle.tk_query.specs.steps.Holders.{AreFinishes, IsAnswerOf, MeetsNone, Spans, TellFits}
-use Rattle.tk_query.specs.steps.Holders.{finish_of, holds_any, meet, writes}
+use Rattle.tk_query.specs.steps.Holders.{AreFinishes, HasOther, HavePair, IsAnswerOf, MeetsNone, Spans}
+use Rattle.tk_query.specs.steps.Holders.{finish_of, holds_any, is_held, is_written, meet, reads, writes}
 use Rattle.tk_query.specs.Pairing.{HaveSlots, rest_of}
 use Rattle.tk_query.proofs.AnswerIsUnique.{head_or_rest, at_head, after_head}
 use Rattle.tk_query.proofs.AskedLemmas.{AreFlags, step_clear}
@@ -169,15 +170,15 @@ module _ (asked : Selected) (w r : Condition) (h : Holders) (are : AreFinishes a
   meets : (p q : ℕ) → CollideAt asked w r p q → meet h p q ≡ true
   meets p q at =
       let c = at.collide in
-      let first : finish_of h p ≡ at.x.last = ap (finish_of h) (sym at.first) ∙ are.each at.x c.first in
-      let second : finish_of h q ≡ at.y.last = ap (finish_of h) (sym at.second) ∙ are.each at.y c.second in
+      let first : finish_of h p ≡ at.x.last = ap (finish_of h) (sym at.first) ∙ are.each at.x c.pair.first in
+      let second : finish_of h q ≡ at.y.last = ap (finish_of h) (sym at.second) ∙ are.each at.y c.pair.second in
       let low = c.overlap.first_starts in
       let high = c.overlap.second_starts in
       let first_at = at.first in
       let second_at = at.second in
       and_from (nat_lt q (finish_of h p) && nat_lt 0 (finish_of h q)) (conflict_in h p q)
       (and_from (nat_lt q (finish_of h p)) (nat_lt 0 (finish_of h q)) (lt-ltb q (finish_of h p) (omega arith)) (lt-ltb 0 (finish_of h q) (omega arith)))
-      (sym (conflict_is p q) ∙ (subst (λ n. conflict asked w r p n ≡ true) at.second (subst (λ n. conflict asked w r n at.y.first ≡ true) at.first c.conflicts)))
+      (sym (conflict_is p q) ∙ (subst (λ n. conflict asked w r p n ≡ true) at.second (subst (λ n. conflict asked w r n at.y.first ≡ true) at.first c.pair.conflicts)))
 
   collides : (p q : ℕ) → p < q → meet h p q ≡ true → CollideAt asked w r p q
   collides p q order met =
@@ -197,41 +198,124 @@ module _ (asked : Selected) (w r : Condition) (h : Holders) (are : AreFinishes a
         first = a.starts;
         second = b.starts;
         collide = record {
-          first = a.span;
-          second = b.span;
-          different = λ same. let e = ap (λ (z : Execution). z.first) same in omega arith;
+          pair = record {
+            first = a.span;
+            second = b.span;
+            different = λ same. let e = ap (λ (z : Execution). z.first) same in omega arith;
+            conflicts = subst (λ n. conflict asked w r n b.x.first ≡ true) (sym a.starts)
+                (subst (λ n. conflict asked w r p n ≡ true) (sym b.starts)
+                (conflict_is p q ∙ parts.1));
+          };
           overlap = record { first_starts = omega arith; second_starts = omega arith };
-          conflicts = subst (λ n. conflict asked w r n b.x.first ≡ true) (sym a.starts) (subst (λ n. conflict asked w r p n ≡ true) (sym b.starts) (conflict_is p q ∙ parts.1));
         };
       }
 
   no_collision : (p q : ℕ) → p < q → MeetsNone h q → CollideAt asked w r p q → ⊥
   no_collision p q order none at = true≢false (sym (meets p q at) ∙ none p order)
 
+  conflict_swap : (p q : ℕ) → conflict asked w r p q ≡ true → conflict asked w r q p ≡ true
+  conflict_swap p q =
+      or_swap (fits asked w p && (fits asked w q || fits asked r q))
+      (fits asked w q && (fits asked w p || fits asked r p))
+
   other_way : (x y : Execution) → Collide asked w r x y → Collide asked w r y x
   other_way x y c = record {
-    first = c.second;
-    second = c.first;
-    different = λ same. c.different (sym same);
+    pair = record {
+      first = c.pair.second;
+      second = c.pair.first;
+      different = λ same. c.pair.different (sym same);
+      conflicts = conflict_swap x.first y.first c.pair.conflicts;
+    };
     overlap = record { first_starts = c.overlap.second_starts; second_starts = c.overlap.first_starts };
-    conflicts = or_swap (fits asked w x.first && (fits asked w y.first || fits asked r y.first)) (fits asked w y.first && (fits asked w x.first || fits asked r x.first)) c.conflicts;
   }
 
   none_in_order : ((q : ℕ) → q < length h.finishes.items → MeetsNone h q) → (x y : Execution) → Collide asked w r x y → x.first < y.first → ⊥
   none_in_order none x y c order =
-      let later = c.second.before in
-      let there = are.each y c.second in
+      let later = c.pair.second.before in
+      let there = are.each y c.pair.second in
       no_collision x.first y.first order (none y.first (within_list h.finishes.items y.first (omega arith)))
       (record { x = x; y = y; first = refl; second = refl; collide = c })
 
-  pub exclusive_is : (answer : Exclusive) → IsAnswerOf h answer → IsExclusive asked w r answer
-  exclusive_is Yes none = λ x y c. ⊎_elim {C = ⊥}
-      (λ (same : x.first ≡ y.first). c.different (one_span (step_at asked) x y c.first c.second same))
+  -- an execution of a writer, and one of a writer or a reader, conflict
+  some_pair : HavePair h → SomePair asked w r
+  some_pair have =
+      let p = have.writer in
+      let q = have.beside.other in
+      let one = and_parts (nat_lt 0 (finish_of h p)) (writes h p) have.written in
+      let two = and_parts (nat_lt 0 (finish_of h q)) (holds_any h q) have.beside.held in
+      let a = are.only p (ltb-true 0 (finish_of h p) one.0) in
+      let b = are.only q (ltb-true 0 (finish_of h q) two.0) in
+      let both : conflict_in h p q ≡ true =
+      or_left (writes h p && holds_any h q) (writes h q && holds_any h p)
+      (and_from (writes h p) (holds_any h q) one.1 two.1) in
+      record {
+        x = a.x;
+        y = b.x;
+        pair = record {
+          first = a.span;
+          second = b.span;
+          different = λ same.
+              have.beside.different
+              (sym b.starts ∙ ap (λ (z : Execution). z.first) (sym same) ∙ a.starts);
+          conflicts = subst (λ n. conflict asked w r n b.x.first ≡ true) (sym a.starts)
+              (subst (λ n. conflict asked w r p n ≡ true) (sym b.starts) (conflict_is p q ∙ both));
+        };
+      }
+
+  -- an execution of a writer, and another of a writer or a reader, by their starts
+  one_writes :
+      (x y : Execution) → ArePair asked w r x y →
+      (writes h x.first && holds_any h y.first) ≡ true → HavePair h
+  one_writes x y pair both =
+      let parts = and_parts (writes h x.first) (holds_any h y.first) both in
+      let one = pair.first.before in
+      let two = pair.second.before in
+      let first : finish_of h x.first ≡ x.last = are.each x pair.first in
+      let second : finish_of h y.first ≡ y.last = are.each y pair.second in
+      record {
+        writer = x.first;
+        written = and_from (nat_lt 0 (finish_of h x.first)) (writes h x.first)
+            (lt-ltb 0 (finish_of h x.first) (omega arith)) parts.0;
+        beside = record {
+          other = y.first;
+          held = and_from (nat_lt 0 (finish_of h y.first)) (holds_any h y.first)
+              (lt-ltb 0 (finish_of h y.first) (omega arith)) parts.1;
+          different = λ same.
+              pair.different (one_span (step_at asked) x y pair.first pair.second (sym same));
+        };
+      }
+
+  swap_pair : (x y : Execution) → ArePair asked w r x y → ArePair asked w r y x
+  swap_pair x y pair = record {
+    first = pair.second;
+    second = pair.first;
+    different = λ same. pair.different (sym same);
+    conflicts = conflict_swap x.first y.first pair.conflicts;
+  }
+
+  have_pair : (x y : Execution) → ArePair asked w r x y → HavePair h
+  have_pair x y pair = ⊎_elim {C = HavePair h}
+      (λ (a : (writes h x.first && holds_any h y.first) ≡ true). one_writes x y pair a)
+      (λ (b : (writes h y.first && holds_any h x.first) ≡ true).
+      one_writes y x (swap_pair x y pair) b)
+      (or_cases (writes h x.first && holds_any h y.first) (writes h y.first && holds_any h x.first)
+      (sym (conflict_is x.first y.first) ∙ pair.conflicts))
+
+  none_collide :
+      ((q : ℕ) → q < length h.finishes.items → MeetsNone h q) →
+      (x y : Execution) → Collide asked w r x y → ⊥
+  none_collide none x y c = ⊎_elim {C = ⊥}
+      (λ (same : x.first ≡ y.first).
+      c.pair.different (one_span (step_at asked) x y c.pair.first c.pair.second same))
       (λ (apart : (x.first < y.first) ⊎ (y.first < x.first)). ⊎_elim {C = ⊥}
       (λ (before : x.first < y.first). none_in_order none x y c before)
       (λ (after : y.first < x.first). none_in_order none y x (other_way x y c) after)
       apart)
       (cases_order x.first y.first)
+
+  pub exclusive_is : (answer : Exclusive) → IsAnswerOf h answer → IsExclusive asked w r answer
+  exclusive_is Yes (have, none) = (some_pair have, none_collide none)
+  exclusive_is NoPair none = λ x y pair. none (have_pair x y pair)
   exclusive_is (No p q) (met, before) = record {
     order = met.order;
     collide = collides p q met.order met.met;
@@ -244,3 +328,27 @@ module _ (asked : Selected) (w r : Condition) (h : Holders) (are : AreFinishes a
         (λ (le : p ≤ i). le)
         (cases_lt i p);
   }
+
+-- ---- whether two executions conflict
+
+-- another execution of a writer or a reader, where this one isn't the first writer's
+pub other_pair :
+    (h : Holders) (writer : ℕ) → is_written h writer ≡ true → HavePair h → HasOther h writer
+other_pair h writer written have = ⊎_elim {C = HasOther h writer}
+    (λ (same : have.writer ≡ writer). record {
+      other = have.beside.other;
+      held = have.beside.held;
+      different = λ e. have.beside.different (e ∙ sym same);
+    })
+    (λ (apart : have.writer ≡ writer → ⊥). record {
+      other = have.writer;
+      held = held have.writer have.written;
+      different = apart;
+    })
+    (cases_eq have.writer writer)
+  where
+    held : (p : ℕ) → is_written h p ≡ true → is_held h p ≡ true
+    held p is =
+        let parts = and_parts (nat_lt 0 (finish_of h p)) (writes h p) is in
+        and_from (nat_lt 0 (finish_of h p)) (holds_any h p) parts.0
+        (or_left (writes h p) (reads h p) parts.1)

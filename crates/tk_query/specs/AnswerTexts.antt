@@ -51,14 +51,16 @@ abbrev pub in_order_yes : InOrder → Bool
 in_order_yes (in_order.Yes _) = true
 in_order_yes (in_order.No _) = false
 
--- executions that conflict kept away from each other, or the starts of the first two that didn't
+-- executions that conflict kept away from each other, or the starts of the first two that didn't, or
+-- no two conflict
 abbrev pub exclusive_text : Exclusive → List ℕ
 exclusive_text exclusives.Yes = codes "yes"
 exclusive_text (exclusives.No p q) = codes "no " ++ decimal p ++ blank ∷ decimal q
+exclusive_text exclusives.NoPair = codes "no pair"
 
 abbrev pub exclusive_yes : Exclusive → Bool
 exclusive_yes exclusives.Yes = true
-exclusive_yes (exclusives.No _ _) = false
+exclusive_yes _ = false
 
 abbrev pub ending_name : Ending → List ℕ
 ending_name Skipped = codes "skipped"

@@ -3,7 +3,7 @@ use Rattle.std.specs.Prelude.{◌≡◌, ◌≢◌, ℕ, ◌<◌, ◌≤◌, Boo
 use Rattle.tk_record.specs.Selections.{Selected}
 use Rattle.tk_query_conditions.specs.declared.conditions.Condition.{Condition}
 use Rattle.tk_query.specs.declared.answers.Exclusive.{Exclusive}
-use Rattle.tk_query.specs.declared.answers.Exclusive.TheVariants.{Yes, No}
+use Rattle.tk_query.specs.declared.answers.Exclusive.TheVariants.{Yes, No, NoPair}
 use Rattle.tk_query.specs.declared.execution.Execution.{Execution}
 use Rattle.tk_query.specs.Asked.{fits}
 use Rattle.tk_query.specs.ExecutionSteps.{step_at}
@@ -27,13 +27,23 @@ module _ (asked : Selected) (writers readers : Condition) where
   abbrev pub conflict : ℕ → ℕ → Bool
   conflict p q = (is_writer p && is_holder q) || (is_writer q && is_holder p)
 
-  -- Two different executions, each with a start and a finish, conflict and overlap.
-  pub record Collide (x y : Execution) : Type 0 where
+  -- Two different executions, each with a start and a finish, conflict.
+  pub record ArePair (x y : Execution) : Type 0 where
     pub first : IsSpan (step_at asked) x
     pub second : IsSpan (step_at asked) y
     pub different : x ≢ y
-    pub overlap : Overlap x y
     pub conflicts : conflict x.first y.first ≡ true
+
+  -- some two executions conflict
+  pub record SomePair : Type 0 where
+    pub x : Execution
+    pub y : Execution
+    pub pair : ArePair x y
+
+  -- two executions conflict and overlap
+  pub record Collide (x y : Execution) : Type 0 where
+    pub pair : ArePair x y
+    pub overlap : Overlap x y
 
   -- the executions that start at p and at q conflict and overlap
   pub record CollideAt (p q : ℕ) : Type 0 where
@@ -51,7 +61,9 @@ module _ (asked : Selected) (writers readers : Condition) where
     pub least_second : (i j : ℕ) → i < j → CollideAt i j → q ≤ j
     pub least_first : (i : ℕ) → i < q → CollideAt i q → p ≤ i
 
-  -- no two executions that conflict overlap, or the first two that do
+  -- Some executions conflict, and no two that conflict overlap; or the first two that do; or no two
+  -- executions conflict.
   abbrev pub IsExclusive : Exclusive → Type 0
-  IsExclusive Yes = (x y : Execution) → Collide x y → ⊥
+  IsExclusive Yes = SomePair × ((x y : Execution) → Collide x y → ⊥)
   IsExclusive (No p q) = IsFirstCollision p q
+  IsExclusive NoPair = (x y : Execution) → ArePair x y → ⊥

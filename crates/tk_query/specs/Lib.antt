@@ -9,6 +9,7 @@ pub mod ExecutionSteps
 pub mod Executions
 pub mod Pairing
 pub mod Exclusive
+pub mod Fitting
 pub mod AnswerTexts
 pub mod Laws
 pub mod steps

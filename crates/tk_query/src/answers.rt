@@ -116,11 +116,13 @@ impl fmt::Display for InOrder {
 /// Whether executions that conflict kept away from each other.
 #[derive(Clone, Copy, Debug, PartialEq, Eq)]
 pub enum Exclusive {
-    /// No two executions that conflict overlap.
+    /// Some executions conflict, and no two that conflict overlap.
     Yes,
     /// The positions of the starts of two executions that conflict and overlap: the least second
     /// one, and the least first one for it.
     No(usize, usize),
+    /// No two executions conflict, so that nothing was compared.
+    NoPair,
 }
 
 impl Exclusive {
@@ -132,7 +134,7 @@ impl Exclusive {
     }
 }
 
-/// The words of the answer: `yes` or `no P Q`.
+/// The words of the answer: `yes`, `no P Q` or `no pair`.
 impl fmt::Display for Exclusive {
     ghost output = { λ answer. Some (exclusive_text answer) };
 
@@ -140,6 +142,7 @@ impl fmt::Display for Exclusive {
         match self {
             Exclusive::Yes => f.write_str("yes"),
             Exclusive::No(first, second) => write!(f, "no {first} {second}"),
+            Exclusive::NoPair => f.write_str("no pair"),
         }
     }
 }

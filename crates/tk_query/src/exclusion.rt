@@ -1,8 +1,9 @@
 //! Whether executions that conflict kept away from each other.
-ghost use Rattle.std.specs.Prelude.{◌≡◌, ◌<◌, ◌+◌, false, IfOk, MatchOption, length};
+ghost use Rattle.std.specs.Prelude.{◌≡◌, ℕ, ◌<◌, ◌+◌, true, false, IfOk, MatchOption, length};
 ghost use Rattle.tk_query.specs.Exclusive.{IsExclusive};
 ghost use Rattle.tk_query.specs.ExecutionSteps.{step_at};
-ghost use Rattle.tk_query.specs.steps.Holders.{AreEnds, AreFinishes, IsAnswerOf, IsFirstMet, MeetsNone, TellFits, holds_any, meet};
+ghost use Rattle.tk_query.specs.Fitting.{TellFits};
+ghost use Rattle.tk_query.specs.steps.Holders.{AreEnds, AreFinishes, HasOther, HavePair, IsAnswerOf, IsFirstMet, MeetsNone, holds_any, is_written, meet};
 
 use crate::answers::Exclusive;
 use crate::masks::mask;
@@ -30,7 +31,10 @@ fn finishes_of(alloc: Global, events: &Events) -> Result<Vec<usize>, AllocError>
 }
 
 /// Tells of which of the events the condition holds, with a flag for each entry of the record.
-fn fitting(alloc: Global, events: &Events, condition: &Condition) -> Result<Flags, AllocError>
+///
+/// # Errors
+/// `AllocError` where a request for memory is refused.
+pub fn fitting(alloc: Global, events: &Events, condition: &Condition) -> Result<Flags, AllocError>
     ensures { IfOk result (TellFits events.now condition.now) }
 {
     let record = events.record();
@@ -117,6 +121,43 @@ impl Holders {
         next
     }
 
+    /// The first execution of a writer.
+    fn first_writer(&self) -> Option<usize>
+        ensures { MatchOption result ((p : ℕ) → is_written self.now p ≡ false)
+            (λ p. is_written self.now p ≡ true) }
+    {
+        for start in 0..self.finishes.len() {
+            if 0 < self.finishes[start] && self.writers.is_set(start) {
+                return Some(start);
+            }
+        }
+        None
+    }
+
+    /// Whether there is an execution of a writer or a reader beside the one that starts at `writer`.
+    fn has_other(&self, writer: usize) -> bool
+        ensures some { result ≡ true → HasOther self.now writer }
+        ensures none { result ≡ false → HasOther self.now writer → ⊥ }
+    {
+        for other in 0..self.finishes.len() {
+            if other != writer && 0 < self.finishes[other] && self.is_holder(other) {
+                return true;
+            }
+        }
+        false
+    }
+
+    /// Whether two executions conflict.
+    fn has_pair(&self) -> bool
+        ensures some { result ≡ true → HavePair self.now }
+        ensures none { result ≡ false → HavePair self.now → ⊥ }
+    {
+        match self.first_writer() {
+            Some(writer) => self.has_other(writer),
+            None => false,
+        }
+    }
+
     /// Goes over the starts in their order, up to the first that conflicts with an execution that
     /// has not finished.
     fn answer(&self) -> Exclusive
@@ -131,11 +172,15 @@ impl Holders {
             }
             ends = self.with_start(ends, second);
         }
-        Exclusive::Yes
+        if self.has_pair() {
+            Exclusive::Yes
+        } else {
+            Exclusive::NoPair
+        }
     }
 }
 
-/// Whether executions that conflict kept away from each other.
+/// Whether executions that conflict kept away from each other; `NoPair` where none conflict.
 ///
 /// An execution is a writer's, or a reader's, where that condition holds of its start. Two of them
 /// conflict where one is a writer's and the other a writer's or a reader's; they overlap where each

@@ -1,5 +1,5 @@
 -- Which static keys never ran, by what is known at the end of a record.
-use Rattle.std.proofs.Common.{◌≡◌, ℕ, ◌<◌, ◌≤◌, ◌⊎◌, ⊎_elim, Bool, true, false, not, List, length, get_or, Option, Some, None, sym, ap, ◌∙◌, subst, arith, eq-eqb, eqb-true}
+use Rattle.std.proofs.Common.{◌≡◌, ℕ, ◌<◌, ◌≤◌, ◌⊎◌, ⊎_elim, inl, inr, Bool, true, false, not, List, length, get_or, Option, Some, None, refl, sym, ◌∙◌, subst, arith, eq-eqb, eqb-true}
 use Rattle.std.specs.Prelude.{◌==◌, slice_get}
 use Rattle.std.proofs.lemmas.Bool.{true≢false, and_from, and_parts, or_cases, or_parts}
 use Rattle.std.proofs.lemmas.Option.{none-some, same_Some, slice_get-get_or, slice_get_within}
@@ -11,11 +11,12 @@ use Rattle.tk_events.specs.declared.events.Entry.{Entry}
 use Rattle.tk_record.specs.Entries.{of_kind, of_status}
 use Rattle.tk_record.specs.Recorded.{Recorded}
 use Rattle.tk_query_lifecycle.specs.Lifecycle.{HasId, has_event, has_run, is_event}
-use Rattle.tk_query_lifecycle.specs.NeverRan.{HasNoTurn, NeverRuns, Succeeds}
+use Rattle.tk_query_lifecycle.specs.LifecycleLaws.{KeptRootsRun}
+use Rattle.tk_query_lifecycle.specs.NeverRan.{HasNoTurn, IsDue, NeverRuns, ParentSucceeds, Succeeds}
 use Rattle.tk_query_lifecycle.specs.steps.KeyStates.{is_idle, state_of}
 use Rattle.tk_query_lifecycle.specs.steps.Progress.{IsFirstOfNeverRun, IsParent, IsPhase}
 use Rattle.tk_query_lifecycle.specs.steps.Progress.{IsProgress, IsSought, IsWhetherNeverRun}
-use Rattle.tk_query_lifecycle.specs.steps.Progress.{has_succeeded, has_success, is_success}
+use Rattle.tk_query_lifecycle.specs.steps.Progress.{has_success, is_due, is_success}
 use Rattle.tk_query_lifecycle.specs.declared.key_states.KeyState.{KeyState}
 use Rattle.tk_query_lifecycle.specs.declared.key_states.Phase.{Phase}
 use Rattle.tk_query_lifecycle.specs.declared.key_states.Phase.TheVariants.{Idle, Running, Ended}
@@ -67,46 +68,63 @@ module _ (r : Recorded) (states : List KeyState) (ids : List (List ℕ × ℕ)) 
   pub where_it_ran : ran ≡ true → IsWhetherNeverRun r key false
   where_it_ran is h = turn r key (sym ran_run ∙ is) h.no_turn
 
-  -- the child that never ran is the one that is looked at
-  its_child : (h : NeverRuns r key) → h.child ≡ child
-  its_child h = same_Some h.child child (sym h.static ∙ static)
+  -- the descriptor that never ran is the one that is looked at
+  due : NeverRuns r key → IsDue r child.id
+  due h = subst (λ (d : Descriptor). IsDue r d.id)
+      (same_Some h.descriptor child (sym h.static ∙ static)) h.due
 
-  its_parent : (h : NeverRuns r key) → HasId r h.parent (parent_of child.id)
-  its_parent h = record {
-    descriptor = h.above;
-    described = h.described;
-    id_is = h.is_parent ∙ ap (λ (d : Descriptor). parent_of d.id) (its_child h);
+  its_parent : (s : ParentSucceeds r child.id) → HasId r s.parent (parent_of child.id)
+  its_parent s = record { descriptor = s.above; described = s.described; id_is = s.is_parent }
+
+  never : ran ≡ false → IsDue r child.id → NeverRuns r key
+  never is d = record {
+    descriptor = child;
+    static = static;
+    due = d;
+    no_turn = no_turn r key (sym ran_run ∙ is);
   }
 
-  pub without_parent : (found : Option Parent) → IsSought r child.id found → found ≡ None → IsWhetherNeverRun r key false
-  without_parent found sought is h = (subst (IsSought r child.id) is sought).1 h.parent (its_parent h)
+  pub without_parent :
+      (found : Option Parent) → IsSought r child.id found → found ≡ None →
+      IsWhetherNeverRun r key false
+  without_parent found sought is h =
+      let s = subst (IsSought r child.id) is sought in
+      let below = s.0 in
+      ⊎_elim {C = ⊥}
+      (λ (one : length child.id ≡ 1). absurd (omega (arith, below, one)))
+      (λ (d : ParentSucceeds r child.id). s.1 d.parent (its_parent d))
+      (due h)
 
   -- below a parent that succeeded, or didn't
-  below_key : ran ≡ false → (parent : ℕ) → IsParent r child.id (Key parent) → (b : Bool) → (state_of states parent).succeeded ≡ b → IsWhetherNeverRun r key b
-  below_key is parent above true succeeded = record {
-    child = child;
-    static = static;
+  below_key :
+      ran ≡ false → (parent : ℕ) → IsParent r child.id (Key parent) → (b : Bool) →
+      (state_of states parent).succeeded ≡ b → IsWhetherNeverRun r key b
+  below_key is parent above true succeeded = never is (inr (record {
     below = above.0;
     parent = parent;
     above = above.1.descriptor;
     described = above.1.described;
     is_parent = above.1.id_is;
     succeeds = succeeds r parent (sym (p.states_are.successes parent) ∙ succeeded);
-    no_turn = no_turn r key (sym ran_run ∙ is);
-  }
+  }))
   below_key is parent above false failed = λ h.
-      let same = p.ids_are.unique (parent_of child.id) h.parent parent (its_parent h) above.1 in
-      true≢false (sym (success r parent (subst (Succeeds r) same h.succeeds)) ∙ sym (p.states_are.successes parent) ∙ failed)
+      let below = above.0 in
+      ⊎_elim {C = ⊥}
+      (λ (one : length child.id ≡ 1). absurd (omega (arith, below, one)))
+      (λ (d : ParentSucceeds r child.id).
+      let same = p.ids_are.unique (parent_of child.id) d.parent parent (its_parent d) above.1 in
+      let ended = success r parent (subst (Succeeds r) same d.succeeds) in
+      true≢false (sym ended ∙ sym (p.states_are.successes parent) ∙ failed))
+      (due h)
 
-  not_root : (h : NeverRuns r key) → length child.id ≡ 1 → ⊥
-  not_root h one = let b = h.below in let e = ap (λ (d : Descriptor). length d.id) (its_child h) in omega (arith, b, e, one)
-
-  below : ran ≡ false → (parent : Parent) → IsParent r child.id parent → (b : Bool) → b ≡ has_succeeded states parent → IsWhetherNeverRun r key b
+  below :
+      ran ≡ false → (parent : Parent) → IsParent r child.id parent → (b : Bool) →
+      b ≡ is_due states parent → IsWhetherNeverRun r key b
   below is Unsought above b same = absurd above
-  below is Root above b same = subst (IsWhetherNeverRun r key) (sym same) (λ h. not_root h above)
+  below is Root above b same = subst (IsWhetherNeverRun r key) (sym same) (never is (inl above))
   below is (Key parent) above b same = below_key is parent above b (sym same)
 
-  pub with_parent : ran ≡ false → (found : Option Parent) (parent : Parent) → IsSought r child.id found → found ≡ Some parent → (b : Bool) → b ≡ has_succeeded states parent → IsWhetherNeverRun r key b
+  pub with_parent : ran ≡ false → (found : Option Parent) (parent : Parent) → IsSought r child.id found → found ≡ Some parent → (b : Bool) → b ≡ is_due states parent → IsWhetherNeverRun r key b
   with_parent is found parent sought some b same = below is parent (subst (IsSought r child.id) some sought) b same
 
 -- each key below the limit runs, or need not
@@ -116,9 +134,21 @@ pub record EachRunsBelow (r : Recorded) (limit : ℕ) : Type 0 where
 pub each_runs : (r : Recorded) (key : ℕ) → EachRunsBelow r key → slice_get r.table key ≡ None → IsFirstOfNeverRun r None
 each_runs r key each past k h = ⊎_elim {C = ⊥}
     (λ (lt : k < key). each.below k lt h)
-    (λ (le : key ≤ k). let within = slice_get_within r.table k h.child h.static in
-    none-some (get_or r.table key h.child) (sym past ∙ slice_get-get_or r.table key h.child (omega (arith, within, le))))
+    (λ (le : key ≤ k). let within = slice_get_within r.table k h.descriptor h.static in
+    none-some (get_or r.table key h.descriptor) (sym past ∙ slice_get-get_or r.table key h.descriptor (omega (arith, within, le))))
     (cases_le k key)
   where
     cases_le : (a b : ℕ) → (a < b) ⊎ (b ≤ a)
     cases_le a b = grind arith
+
+pub kept_roots_run : KeptRootsRun
+kept_roots_run r key root at one kept = turned (has_run key r.entries) refl
+  where
+    turned : (ran : Bool) → has_run key r.entries ≡ ran → has_run key r.entries ≡ true
+    turned true ran = ran
+    turned false idle = absurd (kept.1 key (record {
+      descriptor = root;
+      static = at;
+      due = inl one;
+      no_turn = no_turn r key idle;
+    }))

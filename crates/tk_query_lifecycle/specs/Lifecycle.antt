@@ -25,7 +25,7 @@ use Rattle.tk_events.specs.declared.kinds.Kind.TheVariants.{Dynamic, Skipped, St
 use Rattle.tk_events.specs.declared.events.Entry.{Entry}
 use Rattle.tk_record.specs.Entries.{of_kind, desc, with_entry}
 use Rattle.tk_record.specs.Recorded.{Recorded}
-use Rattle.tk_query_lifecycle.specs.NeverRan.{EachChildRuns, IsFirstNeverRun}
+use Rattle.tk_query_lifecycle.specs.NeverRan.{EachDueKeyRuns, IsFirstNeverRun}
 use Rattle.tk_query_lifecycle.specs.declared.lifecycle_rules.Lifecycle.{Lifecycle}
 use Rattle.tk_query_lifecycle.specs.declared.lifecycle_rules.Lifecycle.TheVariants.{
   Kept,
@@ -159,7 +159,7 @@ pub record IsInOrder (r : Recorded) : Type 0 where
 
 -- what is said of a record
 abbrev pub IsLifecycle : Recorded → Lifecycle → Type 0
-IsLifecycle r Kept = IsInOrder r × EachChildRuns r
+IsLifecycle r Kept = IsInOrder r × EachDueKeyRuns r
 IsLifecycle r (Broken p rule) = IsBrokenAt r p rule
 IsLifecycle r (Unfinished key) =
     NoneBreaks r (length r.entries) × (runs key r.entries ≡ true)

@@ -1,6 +1,6 @@
--- Which static descriptors never ran, though the parent succeeded.
-use Rattle.std.specs.Prelude.{◌≡◌, ℕ, ◌<◌, true, length, Some, slice_get}
-use Rattle.tk_ids.specs.IdText.{parent_of}
+-- Which static descriptors never ran, though they are roots or their parents succeeded.
+use Rattle.std.specs.Prelude.{◌≡◌, ◌⊎◌, ℕ, ◌<◌, true, List, length, Some, slice_get}
+use Rattle.tk_ids.specs.IdText.{SegmentView, parent_of}
 use Rattle.tk_ids.specs.declared.descriptors.Descriptor.{Descriptor}
 use Rattle.tk_events.specs.declared.kinds.Kind.TheVariants.{Skipped, Started}
 use Rattle.tk_events.specs.declared.statuses.Status.TheVariants.{Successful}
@@ -23,22 +23,29 @@ pub record HasNoTurn (r : Recorded) (key : ℕ) : Type 0 where
   pub unskipped : (p : ℕ) (e : Entry) → slice_get r.entries p ≡ Some e → e.event.key ≡ key
       → ¬ (of_kind Skipped e ≡ true)
 
--- The key is static, the descriptor whose id is its id without the last segment finishes
--- successfully, and the key itself neither starts nor is skipped.
-pub record NeverRuns (r : Recorded) (key : ℕ) : Type 0 where
-  pub child : Descriptor
-  pub static : slice_get r.table key ≡ Some child
-  pub below : 1 < length child.id
+-- a descriptor has the id without its last segment, and finishes successfully
+pub record ParentSucceeds (r : Recorded) (id : List SegmentView) : Type 0 where
+  pub below : 1 < length id
   pub parent : ℕ
   pub above : Descriptor
   pub described : desc r parent ≡ Some above
-  pub is_parent : above.id ≡ parent_of child.id
+  pub is_parent : above.id ≡ parent_of id
   pub succeeds : Succeeds r parent
+
+-- a descriptor with this id starts or is skipped: it is a root, or its parent succeeds
+abbrev pub IsDue : Recorded → List SegmentView → Type 0
+IsDue r id = (length id ≡ 1) ⊎ ParentSucceeds r id
+
+-- the key is static and due, and neither starts nor is skipped
+pub record NeverRuns (r : Recorded) (key : ℕ) : Type 0 where
+  pub descriptor : Descriptor
+  pub static : slice_get r.table key ≡ Some descriptor
+  pub due : IsDue r descriptor.id
   pub no_turn : HasNoTurn r key
 
--- each static key below a key that finishes successfully starts or is skipped
-abbrev pub EachChildRuns : Recorded → Type 0
-EachChildRuns r = (key : ℕ) → ¬ NeverRuns r key
+-- each static key that is due starts or is skipped
+abbrev pub EachDueKeyRuns : Recorded → Type 0
+EachDueKeyRuns r = (key : ℕ) → ¬ NeverRuns r key
 
 -- the least key that never runs
 pub record IsFirstNeverRun (r : Recorded) (key : ℕ) : Type 0 where

@@ -1,5 +1,5 @@
 //! What the definition of a record's lifecycle implies.
-ghost use Rattle.tk_query_lifecycle.specs.LifecycleLaws.{LifecycleIsUnique, BreakIsFinal, InOrderByItsEvents, KeptByItsEvents};
+ghost use Rattle.tk_query_lifecycle.specs.LifecycleLaws.{LifecycleIsUnique, BreakIsFinal, InOrderByItsEvents, KeptByItsEvents, KeptRootsRun};
 
 /// A record has one lifecycle, and a record that breaks a rule breaks it whatever events follow.
 pub fn lifecycle_is_unique()
@@ -8,9 +8,10 @@ pub fn lifecycle_is_unique()
 {}
 
 /// No event of a record breaks a rule, and no key runs at its end, exactly where its ids, parents
-/// and executions are in order. The lifecycle is kept where each child of a key that succeeds also
-/// runs.
+/// and executions are in order. `Kept` is the answer where, in addition, each static root, and each
+/// static child of a key that succeeds, starts or is skipped.
 pub fn kept_by_its_events()
     ensures in_order { InOrderByItsEvents }
     ensures kept { KeptByItsEvents }
+    ensures roots { KeptRootsRun }
 {}

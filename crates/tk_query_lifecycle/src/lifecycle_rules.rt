@@ -41,15 +41,15 @@ impl fmt::Display for LifecycleRule {
 /// Whether a record keeps the lifecycle, and where it first doesn't.
 #[derive(Clone, Copy, Debug, PartialEq, Eq)]
 pub enum Lifecycle {
-    /// No event breaks a rule, no key runs at the end, and each static key below one that finishes
-    /// successfully starts or is skipped.
+    /// No event breaks a rule, no key runs at the end, and each static key that is a root, or whose
+    /// parent finishes successfully, starts or is skipped.
     Kept,
     /// The least position of an event that breaks a rule, and the first rule that it breaks.
     Broken(usize, LifecycleRule),
     /// No event breaks a rule, and this is the least key that runs at the end.
     Unfinished(u32),
     /// No event breaks a rule, no key runs at the end, and this is the least static key that
-    /// neither starts nor is skipped, though its parent finishes successfully.
+    /// neither starts nor is skipped, though it is a root or its parent finishes successfully.
     NeverRan(u32),
 }
 

@@ -7,7 +7,7 @@ ghost use Rattle.tk_record.specs.Entries.{of_kind, with_entry};
 ghost use Rattle.tk_record.specs.Recorded.{Recorded};
 ghost use Rattle.tk_record.specs.Record.{entry_of_view};
 ghost use Rattle.tk_query_lifecycle.specs.Lifecycle.{HasId, first_entries};
-ghost use Rattle.tk_query_lifecycle.specs.steps.Progress.{AreAdvanced, AreIds, AreNoted, IsChecked, IsFirstOfNeverRun, IsFirstOfRuns, IsFound, IsKnownId, IsKnownParent, IsProgress, IsSought, IsTaken, IsWhetherNeverRun, has_succeeded, is_at_rest, missing_parent, next_event};
+ghost use Rattle.tk_query_lifecycle.specs.steps.Progress.{AreAdvanced, AreIds, AreNoted, IsChecked, IsFirstOfNeverRun, IsFirstOfRuns, IsFound, IsKnownId, IsKnownParent, IsProgress, IsSought, IsTaken, IsWhetherNeverRun, is_at_rest, is_due, missing_parent, next_event};
 ghost use Rattle.tk_query_lifecycle.specs.steps.KeyStates.{state_of};
 
 use crate::key_states::{KeyStates, Parent};
@@ -208,17 +208,18 @@ impl Progress {
         self.states.first_running()
     }
 
-    // Whether there is a parent, and it finished successfully.
-    fn has_succeeded(&self, parent: Parent) -> bool
-        ensures { result ≡ has_succeeded self.now.states parent }
+    // Whether a key with this parent is due: there is none, or it finished successfully.
+    fn is_due(&self, parent: Parent) -> bool
+        ensures { result ≡ is_due self.now.states parent }
     {
         match parent {
             Parent::Key(key) => self.states.at(key).succeeded,
-            _ => false,
+            _ => true,
         }
     }
 
-    // Whether a static key neither starts nor is skipped, though its parent succeeds.
+    // Whether a static key neither starts nor is skipped, though it is a root or its parent
+    // succeeds.
     fn never_ran(
         &self,
         alloc: Global,
@@ -234,12 +235,13 @@ impl Progress {
             return Ok(false);
         }
         match self.seek_parent(alloc, record, &descriptor.id)? {
-            Some(parent) => Ok(self.has_succeeded(parent)),
+            Some(parent) => Ok(self.is_due(parent)),
             None => Ok(false),
         }
     }
 
-    /// The least static key that neither starts nor is skipped, though its parent succeeds.
+    /// The least static key that neither starts nor is skipped, though it is a root or its parent
+    /// succeeds.
     pub(crate) fn first_never_run(
         &self,
         alloc: Global,

@@ -1,14 +1,12 @@
 -- The executions that may conflict, by the positions of their starts.
-use Rattle.std.specs.Prelude.{◌≡◌, ℕ, ◌<◌, ◌≤◌, nat_lt, Bool, true, false, ◌&&◌, ◌||◌}
+use Rattle.std.specs.Prelude.{◌≡◌, ◌≢◌, ℕ, ◌<◌, ◌≤◌, nat_lt, Bool, true, false, ◌&&◌, ◌||◌}
 use Rattle.std.specs.Prelude.{List, get_or, length}
 use Rattle.tk_record.specs.Selections.{Selected}
-use Rattle.tk_query_conditions.specs.declared.conditions.Condition.{Condition}
 use Rattle.tk_query.specs.declared.answers.Exclusive.{Exclusive}
-use Rattle.tk_query.specs.declared.answers.Exclusive.TheVariants.{Yes, No}
+use Rattle.tk_query.specs.declared.answers.Exclusive.TheVariants.{Yes, No, NoPair}
 use Rattle.tk_query.specs.declared.exclusion.Holders.{Holders}
 use Rattle.tk_query.specs.declared.exclusion.Ends.{Ends}
 use Rattle.tk_query.specs.declared.execution.Execution.{Execution}
-use Rattle.tk_query.specs.Asked.{fits}
 use Rattle.tk_query.specs.ExecutionSteps.{step_at}
 use Rattle.tk_query.specs.Executions.{IsSpan}
 
@@ -25,10 +23,6 @@ pub record AreFinishes (asked : Selected) (finishes : List ℕ) : Type 0 where
   pub each :
       (x : Execution) → IsSpan (step_at asked) x → get_or finishes x.first 0 ≡ x.last
   pub only : (p : ℕ) → 0 < get_or finishes p 0 → Spans asked p (get_or finishes p 0)
-
--- the flags say of which of the events asked the condition holds
-pub record TellFits (asked : Selected) (c : Condition) (flags : List Bool) : Type 0 where
-  pub tell : (p : ℕ) → fits asked c p ≡ get_or flags p false
 
 -- the finish of the execution that starts here, or 0
 abbrev pub finish_of : Holders → ℕ → ℕ
@@ -65,7 +59,29 @@ pub record IsFirstMet (h : Holders) (q p : ℕ) : Type 0 where
   pub met : meet h p q ≡ true
   pub first : (i : ℕ) → i < p → meet h i q ≡ false
 
--- no execution conflicts with one that has not finished, or the first that does
+-- an execution of a writer starts here
+abbrev pub is_written : Holders → ℕ → Bool
+is_written h p = nat_lt 0 (finish_of h p) && writes h p
+
+-- an execution of a writer or a reader starts here
+abbrev pub is_held : Holders → ℕ → Bool
+is_held h p = nat_lt 0 (finish_of h p) && holds_any h p
+
+-- an execution of a writer or a reader, and not this one
+pub record HasOther (h : Holders) (writer : ℕ) : Type 0 where
+  pub other : ℕ
+  pub held : is_held h other ≡ true
+  pub different : other ≢ writer
+
+-- an execution of a writer, and another of a writer or a reader
+pub record HavePair (h : Holders) : Type 0 where
+  pub writer : ℕ
+  pub written : is_written h writer ≡ true
+  pub beside : HasOther h writer
+
+-- some executions conflict, and none with one that has not finished; the first that does; or none
+-- conflict
 abbrev pub IsAnswerOf : Holders → Exclusive → Type 0
-IsAnswerOf h Yes = (q : ℕ) → q < length h.finishes.items → MeetsNone h q
+IsAnswerOf h Yes = HavePair h × ((q : ℕ) → q < length h.finishes.items → MeetsNone h q)
 IsAnswerOf h (No p q) = IsFirstMet h q p × ((j : ℕ) → j < q → MeetsNone h j)
+IsAnswerOf h NoPair = HavePair h → ⊥

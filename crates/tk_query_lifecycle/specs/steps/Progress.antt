@@ -37,7 +37,7 @@ use Rattle.tk_query_lifecycle.specs.Lifecycle.{
   has_run,
   runs,
 }
-use Rattle.tk_query_lifecycle.specs.NeverRan.{EachChildRuns, IsFirstNeverRun, NeverRuns}
+use Rattle.tk_query_lifecycle.specs.NeverRan.{EachDueKeyRuns, IsFirstNeverRun, NeverRuns}
 use Rattle.tk_query_lifecycle.specs.steps.KeyStates.{key_under, ArePut, IsCounted, advanced}
 use Rattle.tk_query_lifecycle.specs.steps.KeyStates.{is_running, refusal, running_child, state_of}
 use Rattle.tk_query_lifecycle.specs.declared.lifecycle_rules.LifecycleRule.{LifecycleRule}
@@ -181,10 +181,10 @@ IsFirstOfRuns r (Some key) =
     (runs key r.entries ≡ true) × ((lower : ℕ) → lower < key → runs lower r.entries ≡ false)
 IsFirstOfRuns r None = (key : ℕ) → runs key r.entries ≡ false
 
--- whether there is a parent, and it finished successfully
-abbrev pub has_succeeded : List KeyState → Parent → Bool
-has_succeeded states (Key parent) = (state_of states parent).succeeded
-has_succeeded states _ = false
+-- whether a key with this parent is due: there is none, or it finished successfully
+abbrev pub is_due : List KeyState → Parent → Bool
+is_due states (Key parent) = (state_of states parent).succeeded
+is_due states _ = true
 
 -- whether the key never runs
 abbrev pub IsWhetherNeverRun : Recorded → ℕ → Bool → Type 0
@@ -194,4 +194,4 @@ IsWhetherNeverRun r key false = ¬ NeverRuns r key
 -- the least key that never runs, or none
 abbrev pub IsFirstOfNeverRun : Recorded → Option ℕ → Type 0
 IsFirstOfNeverRun r (Some key) = IsFirstNeverRun r key
-IsFirstOfNeverRun r None = EachChildRuns r
+IsFirstOfNeverRun r None = EachDueKeyRuns r

@@ -1,4 +1,4 @@
--- Where each static key has its turn, no static child of what succeeds is left out.
+-- Where each static key has its turn, no static key that is due is left out.
 use Rattle.std.proofs.Common.{◌≡◌, ℕ, ◌<◌, inl, inr, List, [], ◌∷◌, length, Some, slice_get}
 use Rattle.std.proofs.Common.{refl}
 use Rattle.tk_ids.specs.IdText.{SegmentView}
@@ -7,8 +7,8 @@ use Rattle.tk_events.specs.declared.kinds.Kind.TheVariants.{Finished, Skipped, S
 use Rattle.tk_record.specs.Record.{IsRecord}
 use Rattle.tk_record.specs.Recorded.{Recorded}
 use Rattle.tk_query_lifecycle.specs.KeepsLifecycle.{KeepsLifecycle}
-use Rattle.tk_query_lifecycle.specs.NeverRan.{EachChildRuns}
-use Rattle.tk_plan_laws.proofs.Turns.{IsTurned, ran_by_steps, turned_children_run}
+use Rattle.tk_query_lifecycle.specs.NeverRan.{EachDueKeyRuns}
+use Rattle.tk_plan_laws.proofs.Turns.{IsTurned, ran_by_steps, turned_keys_run}
 use Rattle.tk_engine_hierarchical.specs.Laws.{HasTurn, HaveTurns}
 
 turned : (r : Recorded) (key : ℕ) → HasTurn r key → IsTurned r key
@@ -25,8 +25,8 @@ turned r key (inr (inr u)) = inr
       below = u.below.2;
     })
 
-pub children_run : (r : Recorded) → IsRecord r → KeepsLifecycle r → AreDifferent r.table
+pub due_keys_run : (r : Recorded) → IsRecord r → KeepsLifecycle r → AreDifferent r.table
     → ((key : ℕ) (id : List SegmentView) → slice_get (ids_of r.table) key ≡ Some id → 0 < length id)
-    → HaveTurns r → EachChildRuns r
-children_run r is keeps different some turns = turned_children_run r is keeps different some
+    → HaveTurns r → EachDueKeyRuns r
+due_keys_run r is keeps different some turns = turned_keys_run r is keeps different some
     (λ key within. turned r key (turns key within))

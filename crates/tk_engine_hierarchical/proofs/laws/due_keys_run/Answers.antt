@@ -4,11 +4,11 @@ use Rattle.tk_ids.specs.Table.{AreDifferent, ids_of}
 use Rattle.tk_record.specs.Record.{IsRecord}
 use Rattle.tk_record.specs.Recorded.{Recorded}
 use Rattle.tk_query_lifecycle.specs.Lifecycle.{IsLifecycle}
-use Rattle.tk_query_lifecycle.specs.NeverRan.{EachChildRuns}
+use Rattle.tk_query_lifecycle.specs.NeverRan.{EachDueKeyRuns}
 use Rattle.tk_query_lifecycle.specs.declared.lifecycle_rules.Lifecycle.TheVariants.{Kept}
 use Rattle.tk_plan_laws.proofs.Turns.{long_ids}
-use Rattle.tk_engine_hierarchical.proofs.ChildrenRun.{children_run}
-use Rattle.tk_engine_hierarchical.proofs.laws.children_run.Goals as goal
+use Rattle.tk_engine_hierarchical.proofs.DueKeys.{due_keys_run}
+use Rattle.tk_engine_hierarchical.proofs.laws.due_keys_run.Goals as goal
 
 pub returns : goal.returns
 returns g c =
@@ -18,15 +18,15 @@ returns g c =
     let different : AreDifferent r.table = subst AreDifferent
     (c.table.ensures ∙ ap (λ (x : Recorded). x.table) c.recorded-2.ensures)
     c.shows_different_ids.ensures in
-    let children : EachChildRuns r = children_run r is c.lifecycle.ensures different
+    let due : EachDueKeyRuns r = due_keys_run r is c.lifecycle.ensures different
     (λ key id its. long_ids s.plan.nodes s.plan.table c.shows_shape.ensures.planned key id
     (subst (λ t. slice_get (ids_of t) key ≡ Some id) c.requires.1.over its))
     c.turns.ensures in
     record {
-      children = children;
+      due = due;
       kept = λ answer.
           let kept = (c.kept_by_its_events.ensures.kept r different).1
-          (c.lifecycle.ensures, children) in (
+          (c.lifecycle.ensures, due) in (
             λ is. c.lifecycle_is_unique.ensures.one r answer Kept is kept,
             λ same. subst
                 (IsLifecycle r) (sym same) kept,

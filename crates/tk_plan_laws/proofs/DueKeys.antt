@@ -1,8 +1,8 @@
--- In a run each static child of a node that succeeds starts or is skipped.
-use Rattle.std.proofs.Common.{◌≡◌, ◌≢◌, ℕ, ◌+◌, ◌⊎◌, Bool, true, false, ◌&&◌, ◌||◌, List, [], ◌∷◌, ◌++◌, map, filter, length, Option, Some, None, slice_get, if◌then◌else◌, refl, sym, ap, ◌∙◌, subst, inl, inr, ⊎_elim, arith, append_assoc}
+-- In a run each static key that is due starts or is skipped.
+use Rattle.std.proofs.Common.{◌≡◌, ◌≢◌, ℕ, suc, ◌+◌, ◌⊎◌, Bool, true, false, ◌&&◌, ◌||◌, List, [], ◌∷◌, ◌++◌, map, filter, length, Option, Some, None, slice_get, if◌then◌else◌, refl, sym, ap, ◌∙◌, subst, inl, inr, ⊎_elim, arith, append_assoc}
 use Rattle.std.specs.List.{list_any}
 use Rattle.std.proofs.lemmas.Bool.{true≢false, and_parts, and_from, or_cases, or_left, or_right}
-use Rattle.std.proofs.lemmas.List.{map-append}
+use Rattle.std.proofs.lemmas.List.{length-append, map-append}
 use Rattle.std.proofs.lemmas.List.Folds.{list_any-append}
 use Rattle.tk_ids.specs.IdText.{IsBelow, SegmentView, parent_of}
 use Rattle.tk_ids.specs.Table.{ids_of}
@@ -12,7 +12,7 @@ use Rattle.tk_events.specs.declared.events.Entry.{Entry}
 use Rattle.tk_record.specs.Recorded.{Recorded}
 use Rattle.std.specs.Option.{option_or}
 use Rattle.tk_record.specs.Entries.{desc_in}
-use Rattle.tk_query_lifecycle.specs.NeverRan.{EachChildRuns, NeverRuns}
+use Rattle.tk_query_lifecycle.specs.NeverRan.{EachDueKeyRuns, NeverRuns, ParentSucceeds}
 use Rattle.tk_plan.specs.declared.trees.nodes.NumberedNode.{NumberedNode}
 use Rattle.tk_plan.specs.declared.scripts.steps.Act.TheVariants.{Register, Skip, Start}
 use Rattle.tk_report_text.specs.Labels.{Label, events, id_in, label, labels, name, same_id, same_kind}
@@ -157,6 +157,15 @@ above_parent a p s t (m ∷ ms) e =
     = ap (λ k. a ++ s ∷ k) l.1 ∙ sym (append_assoc a (s ∷ parent_of (m ∷ ms)) (l.0 ∷ [])) in
     inr (record { s = s; more = parent_of (m ∷ ms); id_is = sym (snoc_same (a ++ s ∷ parent_of (m ∷ ms)) p l.0 t (sym longer ∙ e)) })
 
+-- an id of one segment stands below none
+root_alone :
+    (a : List SegmentView) → a ≢ [] → (s : SegmentView) (rest : List SegmentView) →
+    length (a ++ s ∷ rest) ≡ 1 → ⊥
+root_alone [] some s rest one = some refl
+root_alone (x ∷ a) some s rest one =
+    let long : length (a ++ s ∷ rest) ≡ length a + suc (length rest) = length-append a (s ∷ rest) in
+    absurd (omega (arith, one, long))
+
 -- ---- a successful finish
 
 finish_ran : (i : List SegmentView) → Only (finishes i) (ran_of i)
@@ -190,10 +199,10 @@ module _ (all : List NumberedNode) (table : List Descriptor) (f : Forest) (worke
 
   module _ (key : ℕ) (h : NeverRuns r key) where
     abbrev own : List SegmentView
-    own = h.child.id
+    own = h.descriptor.id
 
     its : slice_get (ids_of table) key ≡ Some own
-    its = subst (λ t. slice_get (ids_of t) key ≡ Some own) run.over (map_get (λ (d : Descriptor). d.id) r.table key h.child h.static)
+    its = subst (λ t. slice_get (ids_of t) key ≡ Some own) run.over (map_get (λ (d : Descriptor). d.id) r.table key h.descriptor h.static)
 
     own_name : name r key ≡ own
     own_name = ap (λ o. id_in (option_or o (desc_in r.entries key))) h.static
@@ -217,37 +226,45 @@ module _ (all : List NumberedNode) (table : List Descriptor) (f : Forest) (worke
         (or_cases (starts own (label (name r) e.event)) (skips own (label (name r) e.event)) begun)
 
     -- the parent finishes
-    parent_name : name r h.succeeds.event.event.key ≡ parent_of own
-    parent_name = ap (name r) h.succeeds.of_key ∙ ap id_in h.described ∙ h.is_parent
+    module _ (s : ParentSucceeds r own) where
+      parent_name : name r s.succeeds.event.event.key ≡ parent_of own
+      parent_name = ap (name r) s.succeeds.of_key ∙ ap id_in s.described ∙ s.is_parent
 
-    parent_finish : (i : List SegmentView) → i ≡ parent_of own → list_any (finishes i) (labels r) ≡ true
-    parent_finish i is =
-        let e = h.succeeds.event in
-        any_from (finishes i) (labels r) h.succeeds.position (label (name r) e.event) (label_at r h.succeeds.position e h.succeeds.stands)
-        (and_from (same_id (name r e.event.key) i) (same_kind e.event.kind Finished) ((same_decides (name r e.event.key) i).1 (parent_name ∙ sym is)) (finish_of e.event.kind e.event.payload h.succeeds.successful))
+      parent_finish : (i : List SegmentView) → i ≡ parent_of own → list_any (finishes i) (labels r) ≡ true
+      parent_finish i is =
+          let e = s.succeeds.event in
+          any_from (finishes i) (labels r) s.succeeds.position (label (name r) e.event) (label_at r s.succeeds.position e s.succeeds.stands)
+          (and_from (same_id (name r e.event.key) i) (same_kind e.event.kind Finished) ((same_decides (name r e.event.key) i).1 (parent_name ∙ sym is)) (finish_of e.event.kind e.event.payload s.succeeds.successful))
+
+      child_not_under : IsUnderSkip (labels r) own → ⊥
+      child_not_under u =
+          let l = last_segment own (let b = s.below in omega (arith, b)) in
+          ⊎_elim {C = ⊥}
+          (λ (same : parent_of own ≡ u.above).
+          let ran = filter (ran_of u.above) (labels r) in
+          not_finished u.above ran (once all table f workers r plan run u.above)
+          (sym (any_kept (ran_of u.above) (finishes u.above) (finish_ran u.above) (labels r)) ∙ parent_finish u.above (sym same))
+          (sym (any_kept (ran_of u.above) (skips u.above) (skip_ran u.above) (labels r)) ∙ u.skipped))
+          (λ (b : IsParentBelow u.above (parent_of own)).
+          let none = (listener_law all table f workers r plan run).skipped u.above b.s b.more u.some u.skipped in
+          let e = s.succeeds.event in
+          true≢false (sym (any_from (is_of (u.above ++ b.s ∷ b.more)) (labels r) s.succeeds.position (label (name r) e.event) (label_at r s.succeeds.position e s.succeeds.stands)
+          ((same_decides (name r e.event.key) (u.above ++ b.s ∷ b.more)).1 (parent_name ∙ b.id_is))) ∙ none))
+          (above_parent u.above (parent_of own) u.below.0 l.0 u.below.1 (sym u.below.2 ∙ l.1))
 
     not_under : IsUnderSkip (labels r) own → ⊥
-    not_under u =
-        let l = last_segment own (let b = h.below in omega (arith, b)) in
-        ⊎_elim {C = ⊥}
-        (λ (same : parent_of own ≡ u.above).
-        let ran = filter (ran_of u.above) (labels r) in
-        not_finished u.above ran (once all table f workers r plan run u.above)
-        (sym (any_kept (ran_of u.above) (finishes u.above) (finish_ran u.above) (labels r)) ∙ parent_finish u.above (sym same))
-        (sym (any_kept (ran_of u.above) (skips u.above) (skip_ran u.above) (labels r)) ∙ u.skipped))
-        (λ (b : IsParentBelow u.above (parent_of own)).
-        let none = (listener_law all table f workers r plan run).skipped u.above b.s b.more u.some u.skipped in
-        let e = h.succeeds.event in
-        true≢false (sym (any_from (is_of (u.above ++ b.s ∷ b.more)) (labels r) h.succeeds.position (label (name r) e.event) (label_at r h.succeeds.position e h.succeeds.stands)
-        ((same_decides (name r e.event.key) (u.above ++ b.s ∷ b.more)).1 (parent_name ∙ b.id_is))) ∙ none))
-        (above_parent u.above (parent_of own) u.below.0 l.0 u.below.1 (sym u.below.2 ∙ l.1))
+    not_under u = ⊎_elim {C = ⊥}
+        (λ (root : length own ≡ 1).
+        root_alone u.above u.some u.below.0 u.below.1 (sym (ap (λ (i : List SegmentView). length i) u.below.2) ∙ root))
+        (λ (s : ParentSucceeds r own). child_not_under s u)
+        h.due
 
     not_covered : IsCovered (plan_labels f) own → ⊥
     not_covered (inl any) = not_begun (same_any own (begins own) (begin_of own) ∙ any)
     not_covered (inr u) = not_under (record { above = u.above; some = u.some; skipped = same_any u.above (skips u.above) (skip_of u.above) ∙ u.skipped; below = u.below })
 
-  pub children_run : ((key : ℕ) (id : List SegmentView) → slice_get (ids_of table) key ≡ Some id → (i : ℕ) × (n : Item) × (slice_get (nodes_below f) i ≡ Some n) × (n.id ≡ id)) → EachChildRuns r
-  children_run item key h =
-      let at = item key h.child.id (its key h) in
+  pub due_keys_run : ((key : ℕ) (id : List SegmentView) → slice_get (ids_of table) key ≡ Some id → (i : ℕ) × (n : Item) × (slice_get (nodes_below f) i ≡ Some n) × (n.id ≡ id)) → EachDueKeyRuns r
+  due_keys_run item key h =
+      let at = item key h.descriptor.id (its key h) in
       not_covered key h (subst (IsCovered (plan_labels f)) at.3
       (each_at (IsCoveredIn (steps_below 0 f)) (nodes_below f) at.0 at.1 (forest_covers [] 0 f plan.built) at.2))
