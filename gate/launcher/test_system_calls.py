@@ -10,7 +10,7 @@ import unittest
 from dataclasses import dataclass
 from typing import List, Sequence
 
-from fixtures import PROGRAM, TOP, WithProgram, folder, parameterized, run, write
+from fixtures import PROGRAM, TOP, WithProgram, folder, parameterized, run
 
 TRACED = "trace=%file,%network,%process,write,writev,pwrite64,pwritev,pwritev2,sendfile,splice,tee,vmsplice,io_uring_setup,io_uring_enter,ptrace"
 """The calls that are looked at: of files, sockets, processes and threads, and what writes."""
