@@ -203,7 +203,8 @@ class Check(unittest.TestCase):
             self.assertIn(row.counted, said.splitlines()[-1])
         else:
             self.assertEqual(row.counted, said.splitlines()[-1], said)
-            self.assertRegex(said, r"\ncheck: \d+ minutes by the clock on \d+ processors\n")
+            self.assertRegex(said, r"\ncheck: \d+ minutes by the clock, \d+ of processor time, on \d+ processors\n")
+            self.assertEqual(row.words[1:] == (), "  0   " in said and "wrong bodies  runs  crate\n" in said, said)
         self.check_left(at, row)
 
     def check_left(self, at: str, row: Checks) -> None:
@@ -225,7 +226,7 @@ class Check(unittest.TestCase):
     def repository(self, row: Checks) -> str:
         """Makes a clean repository in which each command is a script."""
         at = folder(self)
-        for path in ("check", ".ci/run", ".gitignore", "tools/checked.py", "gate/fixtures.py"):
+        for path in ("check", ".ci/run", ".gitignore", "tools/checked.py", "gate/fixtures.py", "gate/times.py"):
             os.makedirs(os.path.dirname(f"{at}/{path}"), exist_ok=True)
             shutil.copy(f"{TOP}/{path}", f"{at}/{path}")
         rt = f'ci) {row.ci} ;;\nversion) echo "{KIT}"; echo more ;;\n"try --test --seconds 10") {row.tries} ;;'

@@ -57,6 +57,11 @@ def proved_with(top: str, compiler: str, files: Dict[str, bytes]) -> bytes:
     return f"# kit {kit}\n# sources {sources}\n# {compiler}\n{sums}".encode()
 
 
+def without_kit(text: bytes) -> bytes:
+    """Returns the text of PROVED-WITH without its first line: another kit that builds the same bytes renews nothing."""
+    return text.partition(b"\n")[2]
+
+
 def wanted(top: str) -> Dict[str, bytes]:
     """Returns the files that bin/ has to have."""
     if not listener.can_be_made():
@@ -68,6 +73,8 @@ def wanted(top: str) -> Dict[str, bytes]:
 def renew(top: str) -> List[str]:
     """Writes the files of bin/ that differ, each once it is whole, and returns their names."""
     files = wanted(top)
+    if without_kit(read(f"{top}/bin/{PROVED_WITH}")) == without_kit(files[PROVED_WITH]):
+        del files[PROVED_WITH]
     changed = [name for name, data in files.items() if read(f"{top}/bin/{name}") != data]
     os.makedirs(f"{top}/bin", exist_ok=True)
     for name in changed:

@@ -61,8 +61,9 @@ class Renewed(unittest.TestCase):
         self.assertEqual(self.it.call("3", input=b"in").status, 3)
 
     def test_again(self) -> None:
-        """What is as it was isn't written; another repository of the same files has the same bytes, save of the program's own."""
+        """What is as it was isn't written, also under another kit; another repository of the same files has the same bytes."""
         first = (self.it.renew(), self.it.made())
+        self.it.write("commands/rt", "#!/bin/sh\necho another kit\n", 0o755)
         self.assertEqual((self.it.renew().output, self.it.made()), (b"bin/ is as it was\n", first[1]))
         other = Keeper(self)
         self.assertEqual((other.renew(), other.made()), first)

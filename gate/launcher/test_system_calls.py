@@ -1,0 +1,104 @@
+"""What the program asks the system for, as `strace` sees it: whoever runs a program that somebody else built may want to know.
+
+It reads standard input, writes on standard output and standard error, and starts threads. It opens no file, no socket and no process; the C
+library's loader opens the library before it begins, and the library may look how many processors there are.
+"""
+
+import re
+import shutil
+import unittest
+from dataclasses import dataclass
+from typing import List, Sequence
+
+from fixtures import PROGRAM, TOP, WithProgram, folder, parameterized, run
+
+TRACED = "trace=%file,%network,%process,write,writev,pwrite64,pwritev,pwritev2,sendfile,splice,tee,vmsplice,io_uring_setup,io_uring_enter,ptrace"
+"""The calls that are looked at: of files, sockets, processes and threads, and what writes."""
+
+STRACE = ("strace", "-f", "-qq", "-e", TRACED, "-o")
+CAN_TRACE = shutil.which("strace") is not None and run([*STRACE, "/dev/null", "true"]).status == 0
+
+ALLOWED = re.compile(
+    r"""exit(_group)?\(.*
+    |writev?\([12],.*
+    |clone3?\(.*CLONE_THREAD.*
+    |(access|openat|newfstatat|stat|readlink)\([^"]*"(|/etc/ld\.so\.\w+|(/usr)?/lib[^"]*|/sys/devices/system/cpu/\w+)".*""",
+    re.VERBOSE,
+)
+"""What is allowed after the call by which the program begins. (A place without a name is of what is open already.)"""
+
+
+def others(trace: str) -> List[str]:
+    """The calls of a trace that aren't allowed."""
+    calls = [found[1] for found in re.finditer(r"^\d+ +(\w+\(.*)", trace, re.MULTILINE)]
+    if not calls or not calls[0].startswith("execve("):
+        return ["nothing was traced"]
+    return [it for it in calls[1:] if not ALLOWED.fullmatch(it)]
+
+
+@dataclass(frozen=True)
+class Call:
+    """A call of the program, and what it answers: its status, and how its output begins."""
+
+    words: Sequence[str]
+    input: str
+    status: int
+    output: bytes
+
+
+CALLS = [
+    Call(["ask", "count", "all"], "examples/two_tests.record", 0, b"5\n"),
+    Call(["ask", "explain", "lifecycle"], "examples/broken.record", 1, b"no 2 child-running\n"),
+    Call(["replay"], "examples/small.replay", 0, b"testkit-record|2\n"),
+    Call(["run", "--workers", "15"], "examples/demo.plan", 0, b"skipped 1\n"),
+    Call(["run"], "examples/small.replay", 2, b""),
+    Call(["--help"], "examples/small.replay", 2, b""),
+]
+
+
+@unittest.skipUnless(CAN_TRACE, "no strace")
+class Calls(WithProgram):
+    @parameterized(CALLS, name=lambda row: " ".join(row.words))
+    def test_program(self, row: Call) -> None:
+        trace = f"{folder(self)}/trace"
+        with open(f"{TOP}/{row.input}", "rb") as file:
+            ran = run([*STRACE, trace, PROGRAM, *row.words], file.read())
+        self.assertEqual((ran.status, ran.output[: len(row.output)]), (row.status, row.output), ran)
+        with open(trace, encoding="utf-8", errors="replace") as file:
+            self.assertEqual(others(file.read()), [])
+
+
+STARTED = '7 execve("/a/testkit", ["testkit"], 0x7ffe /* 2 vars */) = 0\n'
+RIGHT = """\
+7 access("/etc/ld.so.preload", R_OK) = -1 ENOENT (No such file or directory)
+7 openat(AT_FDCWD, "/etc/ld.so.cache", O_RDONLY|O_CLOEXEC) = 3
+7 newfstatat(3, "", {st_mode=S_IFREG|0644, st_size=45831, ...}, AT_EMPTY_PATH) = 0
+7 openat(AT_FDCWD, "/lib/x86_64-linux-gnu/libc.so.6", O_RDONLY|O_CLOEXEC) = 3
+7 clone3({flags=CLONE_VM|CLONE_FS|CLONE_THREAD, child_tid=0x7f} => {parent_tid=[8]}, 88) = 8
+8 exit(0) = ?
+7 write(1, "5\\n", 2 <unfinished ...>
+7 <... write resumed>) = 2
+7 exit_group(0) = ?
+"""
+WRONG = [
+    '7 openat(AT_FDCWD, "/etc/passwd", O_RDONLY) = 3\n',
+    '7 openat(AT_FDCWD, "lib/x", O_WRONLY|O_CREAT) = 3\n',
+    '7 unlink("/lib/x") = 0\n',
+    "7 socket(AF_INET, SOCK_STREAM, IPPROTO_IP) = 3\n",
+    '7 write(3, "5\\n", 2) = 2\n',
+    '8 execve("/bin/sh", ["sh"], 0x7ffe /* 2 vars */) = 0\n',
+    "7 clone(child_stack=NULL, flags=CLONE_CHILD_CLEARTID|SIGCHLD) = 8\n",
+]
+
+
+class Traces(unittest.TestCase):
+    def test_right(self) -> None:
+        self.assertEqual(others(STARTED + RIGHT), [])
+
+    @parameterized(["", RIGHT], name=repr)
+    def test_nothing(self, trace: str) -> None:
+        self.assertEqual(others(trace), ["nothing was traced"])
+
+    @parameterized(WRONG, name=str)
+    def test_wrong(self, line: str) -> None:
+        self.assertEqual(others(STARTED + RIGHT + line), [line[2:-1]])
