@@ -1,6 +1,6 @@
 """Conditions: reading them, with their faults, and of which events they hold.
 
-A condition is a tuple: its word, and after it its text, its pairs or its members.
+A condition is a tuple: its word, and after it its text, its two texts, its pairs or its members.
 """
 
 from typing import List, Optional, Tuple
@@ -16,11 +16,11 @@ KINDS = ("dynamic", "skip", "start", "finish", "report", "file")
 PLAIN_WORDS = ("test", "container", "engine", "started", "succeeded", "failed", "aborted")
 """The atoms of one word."""
 
-TEXT_WORDS = ("id", "name", "skipped", "failed", "aborted", "file")
+TEXT_WORDS = ("id", "name", "skipped", "failed", "aborted", "message", "file")
 """The atoms with a text."""
 
 GROUP_WORDS = ("all", "any", "not")
-OPENING_WORDS = TEXT_WORDS + ("kind", "entry") + GROUP_WORDS
+OPENING_WORDS = TEXT_WORDS + ("kind", "entry", "segment") + GROUP_WORDS
 
 TEXT_ESCAPES = {"%": "%25", "(": "%28", ")": "%29", ",": "%2C"}
 
@@ -51,6 +51,8 @@ def write_condition(condition: Condition) -> str:
         return "not(" + write_condition(condition[1]) + ")"
     if word == "entry":
         return "entry(" + ",".join(write_text(text) for pair in condition[1] for text in pair) + ")"
+    if word == "segment":
+        return "segment(" + ",".join(map(write_text, condition[1])) + ")"
     return word + "(" + write_text(condition[1]) + ")"
 
 
@@ -106,6 +108,8 @@ class Reader:
             return ("kind", self.take_one_of([kind + ")" for kind in KINDS])[:-1])
         if word == "entry":
             return ("entry", self.pairs())
+        if word == "segment":
+            return ("segment", self.two_texts())
         text = self.text()
         self.take_one_of([")"])
         return (word, text)
@@ -137,6 +141,14 @@ class Reader:
                 text += self.data[self.at : self.at + 1]
                 self.at += 1
         return text.decode()
+
+    def two_texts(self) -> Tuple[str, str]:
+        """Takes a text, a comma, a second text, and the bracket after it."""
+        first = self.text()
+        self.take_one_of([","])
+        second = self.text()
+        self.take_one_of([")"])
+        return first, second
 
     def pairs(self) -> Pairs:
         """Takes the pairs of `entry(`, and the bracket after them."""
@@ -171,6 +183,8 @@ def holds(condition: Condition, event: Event, descriptor: Descriptor) -> bool:
         return len(descriptor.id) == 1 and descriptor.id[0][0] == "engine"
     if word == "id":
         return argument in write_id(descriptor.id)
+    if word == "segment":
+        return argument in descriptor.id
     if word == "name":
         return descriptor.name == argument
     if word == "kind":
@@ -179,6 +193,8 @@ def holds(condition: Condition, event: Event, descriptor: Descriptor) -> bool:
         return event.kind == "skip" and event.reason == argument
     if word == "started":
         return event.kind == "start"
+    if word == "message":
+        return event.kind == "finish" and event.message is not None and argument in event.message
     if word == "file":
         return event.kind == "file" and event.path == argument
     if word == "entry":

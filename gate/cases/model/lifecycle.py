@@ -74,10 +74,11 @@ RULES: List[Tuple[str, Rule]] = [
 
 
 def never_ran(events: List[Event], record: Record, key: int) -> bool:
-    """Whether a static key neither starts nor is skipped, though its parent finishes successfully."""
-    parent = key_of_id(events, record, record.table[key].id[:-1])
-    succeeds = any(it.key == parent and it.kind == "finish" and it.status == "ok" for it in events)
-    return succeeds and not any(it.key == key and it.kind in ("start", "skip") for it in events)
+    """Whether a static key neither starts nor is skipped, though it has no parent, or its parent finishes successfully."""
+    above = record.table[key].id[:-1]
+    parent = key_of_id(events, record, above)
+    is_due = not above or any(it.key == parent and it.kind == "finish" and it.status == "ok" for it in events)
+    return is_due and not any(it.key == key and it.kind in ("start", "skip") for it in events)
 
 
 def lifecycle(record: Record) -> Tuple[str, bool]:

@@ -94,9 +94,12 @@ def why_unfinished(events: List[Event], key: int) -> Why:
 
 
 def why_never_ran(events: List[Event], record: Record, key: int) -> Why:
-    parent = key_of_id(events, record, record.table[key].id[:-1])
+    above, idle = record.table[key].id[:-1], "neither started nor was skipped"
+    if not above:
+        return idle, []
+    parent = key_of_id(events, record, above)
     end = [position for position in positions_of(events, parent, ["finish"]) if events[position].status == "ok"][0]
-    return f"neither started nor was skipped, but its parent {described(record, parent)} succeeded at {end}", [end]
+    return f"{idle}, but its parent {described(record, parent)} succeeded at {end}", [end]
 
 
 def explain_lifecycle(record: Record) -> Tuple[str, bool]:

@@ -1,14 +1,14 @@
-"""Plans: reading them with their faults, and the report of a run."""
+"""Plans: reading them with their faults, the report of a run, and its record where one worker runs it."""
 
 import json
 import math
-from dataclasses import dataclass, field
+from dataclasses import dataclass, field, replace
 from typing import Dict, Iterator, List, Optional, Set, Tuple
 
 import form
-from model.questions import statistics_text
+from model.questions import report
 from model.records import Descriptor, Entry, Event, Record, Refused
-from model.texts import Id, Segment, is_within_limits, write_field, write_id
+from model.texts import Id, Segment, is_within_limits, write_field
 
 MAX_NESTING = 127
 """How deep arrays and objects may be nested: `serde_json` reads no deeper."""
@@ -38,6 +38,8 @@ class Node:
     skip: Optional[str] = None
     status: str = "ok"
     message: Optional[str] = None
+    is_concurrent: bool = False
+    is_isolated: bool = False
     locks: List[str] = field(default_factory=list)
     entries: List[List[Tuple[str, str]]] = field(default_factory=list)
     files: List[str] = field(default_factory=list)
@@ -190,10 +192,11 @@ def check_member(node: Node, name: str, value: object, path: str) -> None:
     elif name == "name":
         node.name = check_text(value, path)
     elif name == "mode":
-        check_word(value, path, ["same_thread", "concurrent"])
+        node.is_concurrent = check_word(value, path, ["same_thread", "concurrent"]) == "concurrent"
     elif name == "isolated":
         if not isinstance(value, bool):
             raise Wrong(path)
+        node.is_isolated = value
     elif name == "locks":
         node.locks = [check_lock(item, item_path) for item, item_path in check_array(value, path)]
     elif name == "skip":
@@ -308,21 +311,50 @@ def script(node: Node, above: Id = ()) -> Iterator[Tuple[Descriptor, Event]]:
     yield descriptor, Event("finish", status=node.status, message=node.message)
 
 
-def report(root: Node) -> str:
-    """The report of a plan, whatever the number of workers."""
-    events = list(script(root))
-    tails: Dict[str, List[str]] = {}
-    for descriptor, event in events:
-        tails.setdefault(write_id(descriptor.id), []).append("  " + event.tail() + "\n")
-    text = statistics_text(Record([], [Entry(0, event) for _, event in events]))
-    for id_text in sorted(tails, key=lambda id_text: id_text.encode()):
-        text += write_field(id_text) + "\n" + "".join(tails[id_text])
-    return text
+def static_nodes(node: Node, above: Id = ()) -> Iterator[Tuple[Descriptor, Node]]:
+    """The static nodes in preorder, each with its descriptor: their numbers are their keys."""
+    descriptor = Descriptor(node.letter, above + (node.segment,), node.name)
+    yield descriptor, node
+    for child in node.children:
+        yield from static_nodes(child, descriptor.id)
 
 
-def run(data: bytes, workers: int) -> str:
-    """What `run` writes, or `Refused`: the plan's faults come before that of the workers."""
+def spine(node: Node, above: Id = (), is_root: bool = True) -> Iterator[Id]:
+    """The ids of the nodes whose children are units, or stand on the spine themselves."""
+    may_be = is_root or (node.is_concurrent and node.letter in "CB")
+    is_plain = node.skip is None and not (node.locks or node.is_isolated or node.dynamic)
+    if may_be and is_plain and node.children and all(child.is_concurrent for child in node.children):
+        yield above + (node.segment,)
+        for child in node.children:
+            yield from spine(child, above + (node.segment,), False)
+
+
+def record_of_one_worker(root: Node) -> Record:
+    """The record of a run by one worker: the starts and entries of the spine, the units in their order, the finishes of the spine."""
+    record = Record([descriptor for descriptor, _ in static_nodes(root)])
+    above = set(spine(root))
+    keys = {descriptor.id: key for key, descriptor in enumerate(record.table)}
+
+    def turn(stamped: Tuple[int, Tuple[Descriptor, Event]]) -> int:
+        """0 before the units, 1 in a unit, 2 after the units."""
+        descriptor, event = stamped[1]
+        return 1 if descriptor.id not in above else 2 if event.kind == "finish" else 0
+
+    for stamped in sorted(enumerate(script(root)), key=turn):
+        stamp, (descriptor, event) = stamped
+        if event.kind == "dynamic":
+            keys[descriptor.id] = form.MAX_DESCRIPTORS + record.registered_by(1)
+        record.entries.append(Entry(turn(stamped) % 2, replace(event, key=keys[descriptor.id], stamp=stamp)))
+    return record
+
+
+def run(data: bytes, workers: int, is_recorded: bool = False) -> str:
+    """What `run` writes, or `Refused`: the plan's faults come before that of the workers.
+
+    The report is that of each run, whatever the number of workers. The record is that of a run by one worker.
+    """
     root = read_plan(data)
     if not 1 <= workers <= form.MAX_WORKERS:
         raise Refused(f"workers must be 1 to {form.MAX_WORKERS}")
-    return report(root)
+    record = record_of_one_worker(root)
+    return record.text() if is_recorded else report(record)[0]

@@ -1,7 +1,7 @@
 """The outcome of a command line and an input: what is written, and the status."""
 
 from dataclasses import dataclass
-from typing import List, Optional
+from typing import List, Optional, Tuple
 
 from model.plans import run
 from model.records import Refused
@@ -45,18 +45,23 @@ def perform(words: List[str], data: bytes):
         words = words[:-1]
     if words == ["replay"]:
         return replay(data), True
-    workers = read_run(words)
+    workers, is_recorded = read_run(words)
     if workers is None:
         raise Refused("bad command line")
-    return run(data, workers), True
+    return run(data, workers, is_recorded), True
 
 
-def read_run(words: List[str]) -> Optional[int]:
-    """The number of workers of `run`, `run --workers N` and `run --workers=N`."""
-    if words == ["run"]:
-        return 1
-    if len(words) == 3 and words[:2] == ["run", "--workers"]:
-        return read_number(words[2], 8)
-    if len(words) == 2 and words[0] == "run" and words[1].startswith("--workers="):
-        return read_number(words[1][len("--workers=") :], 8)
-    return None
+def read_run(words: List[str]) -> Tuple[Optional[int], bool]:
+    """The number of workers of `run [--workers N] [--record]`, if it is one, and whether the record is asked for."""
+    numbers: List[str] = []
+    flags, left = [], words[1:]
+    while left and words[0] == "run":
+        word = left.pop(0)
+        name, is_joined, number = word.partition("=")
+        if name == "--workers" and (is_joined or left):
+            numbers.append(number if is_joined else left.pop(0))
+        else:
+            flags.append(word)
+    if words[:1] != ["run"] or len(numbers) > 1 or flags not in ([], ["--record"]):
+        return None, False
+    return read_number((numbers or ["1"])[0], 8), bool(flags)

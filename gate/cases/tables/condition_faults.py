@@ -25,6 +25,9 @@ all(test,entry(a^))
 any^ any(test^ any()^x any(not(^))
 not^ not(^ not(^) not(test^ not(test^,test) not(test)^) not(not(test)^ no^ne(test) test^|test
 file^ file(^ file(a^,b)
+m^ mess^ message^ message^, message^) message(^ message(a^ message(a^,b) message(a^(b) message(%^) message(a)^) me^x
+se^ segment^ segment^, segment^) segment(^ segment(^) segment(a^ segment(a^) segment(a^( segment(a,^ segment(a,b^ segment(a,b^,c)
+segment(a,b^(c) segment(a^(,b) segment(a,b)^) segment(a,%2^B) segment(a%^3Ab,c) segment(,^ segment(,^, segment(é^ segment^s
 """.split()
 BAD_AT += ["^ test", "test^ ", "all(test^ test)", "all(test,^ test)", "test^\n", NOTS + "^", NOTS + "^x"]
 BAD_AT += [f"{NOTS}test{ENDS[1:]}^", f"{NOTS}test{ENDS}^)", f"{NOTS}test{ENDS}^not(", "all(not(^x)," + "not(" * 40]
@@ -54,6 +57,10 @@ READ = [
     "all(all(),any(),all(all(),any()))",
     "name(not%28)",
     "entry(a,b,c,d,e,f,g,h)",
+    "segment(,)",
+    "segment(a:b/[],%2C%28)",
+    "message()",
+    f"{NOTS}segment(not%28,all%28){ENDS}",
 ]
 """Conditions that are read; on an empty record none of them holds of an event."""
 

@@ -23,24 +23,35 @@ RAN_BEFORE = events("3 start, 3 finish|ok, 1 start, 2 start, 2 finish|ok, 3 star
 OUTLIVING = events("1 start, 2 start, 2 finish|ok, 3 start, 3 finish|fail, 1 finish|abort")
 
 YES = [
-    ("no event", "test", events("")),
     ("one after the other", "test", APART),
+    ("a writer before a reader", "name(t1) name(t2)", APART),
+    ("a reader before a writer", "name(t2) name(t1)", APART),
+    ("a test that is both a writer's and a reader's", "test test", APART),
+    ("a writer that reads too", "name(t1) test", APART),
+    ("a test that runs twice", "name(t1)", events("1 start, 1 finish|ok, 1 start, 1 finish|ok")),
+    ("readers that overlap beside a writer", "name(t3) test", events("1 start, 2 start, 1 finish|ok, 2 finish|ok, 3 start, 3 finish|ok")),
+]
+
+NO_PAIR = [
+    ("no event", "test", events("")),
     ("one writer beside another test", "name(t1)", OVERLAPPING),
+    ("a writer with itself", "name(t1) name(t1)", APART),
     ("readers alone", "any() test", OVERLAPPING),
     ("a reader's test that another reads beside it", "name(t3) test", OVERLAPPING),
     ("nobody", "any() any()", OVERLAPPING),
+    ("a name that nobody has", "name(t4) test", OVERLAPPING),
     ("a test within its container", "test", BELOW),
     ("one that never finishes", "test", events("1 start, 2 start, 1 finish|ok")),
+    ("one that never finishes, first", "test", events("1 start, 2 start, 2 finish|ok")),
     ("one that finishes and never started", "test", events("1 start, 2 finish|ok, 1 finish|ok")),
     ("a skip before a test", "test", events("1 skip|off, 2 start, 2 finish|ok")),
     ("a skip within a test", "test", events("1 start, 2 skip|off, 1 finish|ok")),
-    ("a test that is both a writer's and a reader's", "test test", APART),
-    ("a test that runs twice", "test", events("1 start, 1 finish|ok, 1 start, 1 finish|ok")),
     ("a start that a skip ends", "test", events("1 start, 1 skip|off, 2 start, 1 finish|ok, 2 finish|ok")),
     ("a condition of finishes", "succeeded", OVERLAPPING),
     ("two tests", "test", TWO_TESTS),
     ("no record's events", "test", EMPTY),
 ]
+"""No two executions conflict, so nothing was compared."""
 
 NO = [
     ("two writers", "test", OVERLAPPING, "0 1"),
@@ -73,6 +84,7 @@ FAULTS = [
 
 CASES: List = [
     *[answer(f"exclusive/{name}", f"ask exclusive {words}", text, "yes\n") for name, words, text in YES],
+    *[no(f"exclusive/{name}", f"ask exclusive {words}", text, "no pair\n") for name, words, text in NO_PAIR],
     *[no(f"exclusive/{name}", f"ask exclusive {words}", text, f"no {pair}\n") for name, words, text, pair in NO],
     *faults("exclusive/", "exclusive", 0, FAULTS, OVERLAPPING),
 ]

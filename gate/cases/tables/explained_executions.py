@@ -4,16 +4,16 @@ import re
 from typing import List
 
 from tables.building import record
-from tables.exclusives import BELOW, NESTED, OVERLAPPING, RAN_BEFORE, START_TWICE
+from tables.exclusives import APART, BELOW, NESTED, OVERLAPPING, RAN_BEFORE, START_TWICE, events
 from tables.explanation_rows import early, explained, found, lacks, listed
 from tables.questions import EVERY_KIND, marks
 from tables.texts import EMPTY, ONE_START, TWO_TESTS
 
 
-def collision(name: str, words: str, text: str, first: str, second: str):
-    """Two executions overlap: of each the descriptor, and the positions of its start and its finish."""
+def collision(name: str, words: str, text: str, first: str, second: str, who: str = ""):
+    """Two executions overlap: of each the descriptor, and the positions of its start and its finish; then who writes, where some read."""
     positions = [int(part) for span in (first, second) for part in re.search(r"\((\d+) to (\d+)\)$", span).groups()]
-    rows = [f"no {positions[0]} {positions[2]}", f"{first} and {second} overlap", *sorted(positions)]
+    rows = [f"no {positions[0]} {positions[2]}", f"{first} and {second} overlap{who}", *sorted(positions)]
     return explained(f"exclusive, {name}", f"exclusive {words}", text, *rows)
 
 
@@ -21,14 +21,34 @@ def test_of(number: int, start: int, finish: int) -> str:
     return f'[engine:e]/[t:{number}] "t{number}" ({start} to {finish})'
 
 
+def no_pair(name: str, words: str, text: str, *counts: int):
+    """Nothing was compared: of how many executions each condition holds."""
+    rows = [row for number, count in enumerate(counts) for row in (f"{number} {words.split()[number]}", f"    {count} executions")]
+    return explained(f"exclusive, {name}", f"exclusive {words}", text, "no pair", *rows)
+
+
+SECOND_WRITES, FIRST_WRITES, BOTH_WRITE = ", the second as a writer", ", the first as a writer", ", both as writers"
+
 EXCLUSIVE = [
-    explained("exclusive, yes", "exclusive test", TWO_TESTS, "yes"),
-    explained("exclusive, readers alone", "exclusive any() test", OVERLAPPING, "yes"),
-    collision("a writer and a reader", "name(t2) name(t1)", OVERLAPPING, test_of(1, 0, 2), test_of(2, 1, 3)),
-    collision("the first pair of those that conflict", "name(t3) test", NESTED, test_of(1, 0, 4), test_of(3, 2, 5)),
+    explained("exclusive, yes", "exclusive test", APART, "yes"),
+    explained("exclusive, yes of a writer and a reader", "exclusive name(t1) name(t2)", APART, "yes"),
+    no_pair("two tests", "test", TWO_TESTS, 1),
+    no_pair("one writer", "name(t1)", OVERLAPPING, 1),
+    no_pair("a writer and no reader", "name(t1) name(t4)", OVERLAPPING, 1, 0),
+    no_pair("readers alone", "any() test", OVERLAPPING, 0, 2),
+    no_pair("a writer that is the only reader", "name(t2) name(t2)", OVERLAPPING, 1, 1),
+    no_pair("a skip, and one that never finishes", "test", events("1 skip|off, 2 start, 3 start, 3 finish|ok"), 1),
+    no_pair("a condition of finishes", "succeeded", OVERLAPPING, 0),
+    no_pair("no event", "any(test,all(container))", EMPTY, 0),
+    no_pair("a test that runs twice", "any() id(t:1)", events("1 start, 1 finish|ok, 1 start, 1 finish|fail"), 0, 2),
+    collision("a writer and a reader", "name(t2) name(t1)", OVERLAPPING, test_of(1, 0, 2), test_of(2, 1, 3), SECOND_WRITES),
+    collision("a writer before a reader", "name(t1) name(t2)", OVERLAPPING, test_of(1, 0, 2), test_of(2, 1, 3), FIRST_WRITES),
+    collision("two writers that read too", "test test", OVERLAPPING, test_of(1, 0, 2), test_of(2, 1, 3), BOTH_WRITE),
+    collision("two writers beside a reader", "test container", OVERLAPPING, test_of(1, 0, 2), test_of(2, 1, 3), BOTH_WRITE),
+    collision("the first pair of those that conflict", "name(t3) test", NESTED, test_of(1, 0, 4), test_of(3, 2, 5), SECOND_WRITES),
     collision("a test within its container", "all()", BELOW, '[engine:e] "e" (0 to 3)', test_of(1, 1, 2)),
     collision("a second start", "test", START_TWICE, test_of(1, 1, 4), test_of(2, 2, 3)),
-    collision("one that ran before", "any(name(t1),name(t3)) name(t2)", RAN_BEFORE, test_of(1, 2, 7), test_of(2, 3, 4)),
+    collision("one that ran before", "any(name(t1),name(t3)) name(t2)", RAN_BEFORE, test_of(1, 2, 7), test_of(2, 3, 4), FIRST_WRITES),
     collision(
         "a test with itself, as another descriptor of its id",
         "test",

@@ -18,6 +18,8 @@ LIFECYCLES = [
         *("0 skip|off; 65536 dynamic|C|[f:1]|b; 65536 report|k|v; 65536 start; 65536 file|a", "end 65536"),
         '[f:1] "b" started at 3 and never finished',
     ),
+    ("", "start 0", f"{E} neither started nor was skipped"),
+    ("0 report|k|v; 65536 dynamic|C|[f:1]|b; 65536 skip|off", "start 0", f"{E} neither started nor was skipped"),
     ("0 start; 0 finish|ok", "start 1", f"{A} neither started nor was skipped, but its parent {E} succeeded at 1"),
     (
         *("0 start; 1 start; 3 skip|off; 1 finish|ok; 0 finish|fail", "start 2"),
@@ -81,7 +83,7 @@ LIFECYCLES = [
 
 def of_lifecycle(events: str, why: str, sentence: str):
     """The sentence stands above the events whose positions it names."""
-    lines = [f"E|1|{key}|0|{tail}" for key, _, tail in (event.partition(" ") for event in events.split("; "))]
+    lines = [f"E|1|{key}|0|{tail}" for key, _, tail in (event.partition(" ") for event in events.split("; ") if event)]
     positions = sorted(map(int, re.findall(r" at (\d+)", sentence)))
     return explained(f"lifecycle, {events}", "lifecycle", record(*TREE, *lines), f"no {why}", sentence, *positions)
 

@@ -13,7 +13,6 @@ FAULTS = [
     ("a question in capitals", " Lifecycle", "bad word 0"),
     ("a question with a letter more", " lists all", "bad word 0"),
     ("a match by its name", " match loosely test", "bad word 0"),
-    ("statistics", " stats", "bad word 0"),
     ("a count", " count all", "bad word 0"),
     ("a report", " report", "bad word 0"),
     ("an explanation", " explain lifecycle", "bad word 0"),
@@ -28,6 +27,23 @@ FAULTS = [
     ("no header", " lifecycle", "no header", ""),
     ("an unknown key", " executions", "line 3 has an unknown key", record("N|T|[engine:e]|e", "E|1|1|0|start")),
 ]
+OF_A_SELECTION = [
+    ("no mode", " tests", "bad word 1"),
+    ("a bad mode", " tests most test", "bad word 1"),
+    ("two selections", " tests failed loosely", "bad word 1"),
+    ("a question", " tests executions", "bad word 1"),
+    ("a bad condition", " tests loosely tesx", "condition 2 is bad at 3"),
+    ("the second of two is bad", " started exactly test not(", "condition 3 is bad at 4"),
+    ("too deep", f" all in-order {DEEP}", "condition 2 is too deep"),
+    ("executions, a word that is no selection", " executions test", "bad word 1"),
+    ("executions, a word after the selection", " executions tests all", "bad word 2"),
+    ("statistics, a word that is no selection", " stats test", "bad word 1"),
+    ("statistics, a selection after the selection", " stats tests failed", "bad word 2"),
+    ("statistics, a name twice", " stats failed failed=1 failed=1", "bad word 3"),
+    ("statistics, a name twice, of all", " stats failed=1 failed=1", "bad word 2"),
+    ("statistics, a bad number", " stats started=01", "bad word 1"),
+    ("statistics, a record that is cut", " stats failed=1", "line 9 is bad", CUT),
+]
 OF_A_MATCH = [
     ("a bad condition", " tests", "condition 1 is bad at 4"),
     ("the second of two is bad", " test not(", "condition 2 is bad at 4"),
@@ -39,6 +55,7 @@ OF_A_MATCH = [
 
 CASES = [
     *faults("explain/", "explain", 0, FAULTS, TWO_TESTS),
+    *faults("explain/of a selection, ", "explain", 0, OF_A_SELECTION, TWO_TESTS),
     *[it for mode in ("exactly", "loosely", "in-order") for it in faults(f"explain/{mode}, ", f"explain {mode}", 1, OF_A_MATCH, TWO_TESTS)],
     *faults("explain/list, ", "explain list", 1, lists.FAULTS, TWO_TESTS),
     *faults("explain/exclusive, ", "explain exclusive", 1, exclusives.FAULTS, TWO_TESTS),

@@ -8,6 +8,7 @@ from tables.texts import EMPTY, REGISTERED_TEST, TWO_TESTS
 NODES = ["N|C|[engine:e]|e", "N|T|[engine:e]/[t:1]|one"]
 SECOND = "N|T|[engine:e]/[t:2]|two"
 BELOW = "N|T|[engine:e]/[t:1]/[u:1]|three"
+ROOT = "N|T|[engine:f]|f"
 
 
 def events(*key_tails: str, third: str = "") -> Text:
@@ -21,7 +22,6 @@ def dynamic(id_text: str, letter: str = "T") -> str:
 
 
 KEPT = [
-    ("no event", events()),
     ("a test within its container", events("0 start", "1 start", "1 finish|ok", "0 finish|ok")),
     ("a skip within its container", events("0 start", "1 skip|off", "0 finish|ok")),
     ("a skipped container", events("0 skip|off")),
@@ -32,7 +32,9 @@ KEPT = [
     ("a test that never ran, below one that is aborted", events("0 start", "1 start", "1 finish|abort", "0 finish|ok", third=BELOW)),
     ("a test below a skipped one", events("0 start", "1 skip|off", "0 finish|ok", third=BELOW)),
     ("a registered test that never ran", events("0 start", "1 skip|off", dynamic("[engine:e]/[d:1]"), "0 finish|ok")),
-    ("a registered root", events("65536 dynamic|C|[engine:f]|f", "65536 start", "65536 finish|ok")),
+    ("a registered root", events("0 skip|off", "65536 dynamic|C|[engine:f]|f", "65536 start", "65536 finish|ok")),
+    ("a registered root that never ran", events("0 skip|off", "65536 dynamic|C|[engine:f]|f")),
+    ("two roots", events("0 start", "2 start", "2 finish|fail", "1 skip|off", "0 finish|ok", third=ROOT)),
     ("two tests", TWO_TESTS),
     ("nothing at all", EMPTY),
 ]
@@ -46,7 +48,16 @@ BROKEN = [
     ("a test that never ran, before one that did", events("0 start", "2 start", "2 finish|ok", "0 finish|ok", third=SECOND), "start 1"),
     ("a test that never ran, after a skipped one", events("0 start", "1 skip|off", "0 finish|ok", third=SECOND), "start 2"),
     ("a test that never ran, deeper", events("0 start", "1 start", "1 finish|ok", "0 finish|fail", third=BELOW), "start 2"),
-    ("a root that isn't finished, and a test that never ran", events("0 start", "0 finish|ok", "2 start", third="N|T|[engine:f]|f"), "end 2"),
+    ("a root that isn't finished, and a test that never ran", events("0 start", "0 finish|ok", "2 start", third=ROOT), "end 2"),
+    ("no event", events(), "start 0"),
+    ("a root that never ran, beside a registered one", events("65536 dynamic|C|[engine:f]|f", "65536 start", "65536 finish|ok"), "start 0"),
+    ("a root that never ran, before another", events("2 start", "2 finish|ok", third=ROOT), "start 0"),
+    ("a root that never ran, after one that succeeds", events("0 start", "1 skip|off", "0 finish|ok", third=ROOT), "start 2"),
+    ("a root that never ran, after one that fails", events("0 start", "0 finish|fail", third=ROOT), "start 2"),
+    ("a root that never ran, after one that is skipped", events("0 skip|off", third=ROOT), "start 2"),
+    ("a root that reports and never ran", events("0 report|k|v"), "start 0"),
+    ("a root that never ran, and a test that never ran", events("0 start", "0 finish|ok", third=ROOT), "start 1"),
+    ("a root that never ran, and one that isn't finished", events("0 start", third=ROOT), "end 0"),
     ("a test before its container", events("1 start"), "0 parent-not-running"),
     ("a test below a skipped container", events("0 skip|off", "1 start"), "1 parent-not-running"),
     ("a test after its container", events("0 start", "0 finish|ok", "1 start"), "2 parent-not-running"),
