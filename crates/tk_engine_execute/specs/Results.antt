@@ -10,8 +10,8 @@ pub record RunResults : Type 0 where
   pub recorded : Recorded
   pub closed : ClosedView
 
--- Of each of the workers 1 to n the entries are what it sent, in its order, and as many as its number
--- says. The number of any other is 0.
+-- Of each of the workers 1 to n the entries are what it sent, in its order, and as many as its
+-- number says. The number of any other is 0.
 pub record IsTallied (n : ℕ) (closed : ClosedView) (entries : List Entry) : Type 0 where
   pub sent : (w : ℕ) → IsWorkerOf n w → of_worker w entries ≡ sent_in closed w
   pub each : (w : ℕ) → IsWorkerOf n w

@@ -23,8 +23,8 @@ pub record HoldingsFitWord (seats : ℕ) (s : State NeedView SeatNote) : Type 0 
   pub compatible : AreCompatible (holdings s.views)
   pub count : length (holdings s.views) ≡ seats
 
--- The seat read one word more, the one that was found. Its lanes are at least the seat's own, and it
--- is the word of what the seats held at that moment.
+-- The seat read one word more, the one that was found. Its lanes are at least the seat's own, and
+-- it is the word of what the seats held at that moment.
 abbrev pub WordWasLoaded : Step NeedView → Me NeedView SeatNote → ℕ → Me NeedView SeatNote → Type 0
 WordWasLoaded st old x new =
     (new ≡ (seat_note old.0.seats old.0.held (old.0.seen ++ x ∷ []), old.1))

@@ -51,8 +51,8 @@ abbrev pub in_order_yes : InOrder → Bool
 in_order_yes (in_order.Yes _) = true
 in_order_yes (in_order.No _) = false
 
--- executions that conflict kept away from each other, or the starts of the first two that didn't, or
--- no two conflict
+-- executions that conflict kept away from each other, or the starts of the first two that didn't,
+-- or no two conflict
 abbrev pub exclusive_text : Exclusive → List ℕ
 exclusive_text exclusives.Yes = codes "yes"
 exclusive_text (exclusives.No p q) = codes "no " ++ decimal p ++ blank ∷ decimal q

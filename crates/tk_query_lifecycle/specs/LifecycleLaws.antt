@@ -27,8 +27,8 @@ BreakIsFinal =
 abbrev pub InOrderByItsEvents : Type 0
 InOrderByItsEvents = (r : Recorded) → AreDifferent r.table → IsInOrder r ↔ KeepsLifecycle r
 
--- `Kept` is the answer exactly where the record keeps the lifecycle, and each static key that is due
--- starts or is skipped.
+-- `Kept` is the answer exactly where the record keeps the lifecycle, and each static key that is
+-- due starts or is skipped.
 abbrev pub KeptByItsEvents : Type 0
 KeptByItsEvents =
     (r : Recorded) → AreDifferent r.table

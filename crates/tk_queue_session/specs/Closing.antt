@@ -16,8 +16,8 @@ use Rattle.tk_queue_session.specs.Receivers.{ReceiverView, is_marked}
 use Rattle.tk_queue_session.specs.Tokens.{tokens_of, sent_by}
 use Rattle.tk_queue_core.specs.Core.{items_of, script}
 
--- A session that was closed: what each token's worker sent, beside the worker's number, and how many
--- events that were, by the workers' numbers.
+-- A session that was closed: what each token's worker sent, beside the worker's number, and how
+-- many events that were, by the workers' numbers.
 pub record ClosedView : Type 0 where
   pub session : TableId
   pub lists : List (ℕ × List Event)
