@@ -10,7 +10,7 @@ import plans
 import timing
 
 TESTS = 20_000
-LINE = "bodies_bench may_wait=3: tk_engine_hierarchical tk_engine_scripted tk_plan_reading tk_record tk_ids"
+LINE = "bodies_bench may_wait=3: tk_engine_hierarchical tk_engine_unit_events tk_engine_scripted tk_engine_execute tk_plan_reading tk_plan tk_record tk_ids"
 MODES = {"each a unit": "concurrent", "one unit": "same_thread"}
 
 

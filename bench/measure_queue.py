@@ -1,5 +1,5 @@
 #!/usr/bin/env -S python3 -B
-"""Measures events a second through one session of tk_queue with 1, 2, 4 and 8 senders and capacity 64, beside plain bounded queues.
+"""Measures events a second through one session of tk_queue_session with 1, 2, 4 and 8 senders and capacity 64, beside plain bounded queues.
 
 The plain queues (queue/plain.rs, rustc -O) have the same push into a record at their end. It wants rt and rustc, and leaves nothing behind.
 The program (queue/main.rt.in) is proved and built in a copy.
@@ -16,7 +16,7 @@ from typing import Dict, List, Tuple
 import building
 import timing
 
-LINE = "queue_bench: tk_queue tk_record_text tk_events tk_ids tk_waiting"
+LINE = "queue_bench: tk_queue_session tk_queue_core tk_record tk_events tk_ids tk_waiting"
 EVENTS_OF_A_SENDER = 50_000
 
 

@@ -1,13 +1,13 @@
 """The rules for sources: what would break silently. `rt ci` doesn't refuse these things itself."""
 
 from dataclasses import dataclass
-from typing import Callable, Dict, List, Mapping, Sequence
+from typing import Callable, Dict, List, Sequence
 
 import calls
 import edits
 import files
 import memory
-from facade import facade_faults
+from facade import unnamed_words, unused_names
 from reach import reach_faults
 from sources import sources_of
 from tree import Tree
@@ -15,17 +15,13 @@ from tree import Tree
 
 @dataclass(frozen=True)
 class Limits:
-    """What is asked of a tree: its exceptions, where names belong, and how much there has to be."""
+    """What is asked of a tree: its exceptions, and how much there has to be."""
 
     handles: str
-    modules: Mapping[str, str]
-    """The module of the facade for each library."""
     without_clause: Sequence[str] = ()
     """Public functions without a clause, by file and name."""
     fewest_edits: int = 0
     fewest_tests: int = 0
-    internal: Sequence[str] = ()
-    """Libraries whose names authors of engines don't name."""
 
 
 Rule = Callable[[], List[str]]
@@ -34,12 +30,12 @@ Rule = Callable[[], List[str]]
 def rules_of(tree: Tree, limits: Limits) -> Dict[str, Rule]:
     """The rules by their names: each is a function that answers what breaks it."""
     sources = sources_of(tree)
-    parts = [it for it in tree.crates if (it.startswith("tk_") or it == "testkit_questions") and it not in limits.internal]
     tests = [line for it in sources if it.is_test for line in it.code if line.strip() == "#[test]"]
     return {
         "each public function is called": lambda: calls.uncalled(sources),
         "each public function has a clause": lambda: calls.without_clause(sources, limits.without_clause),
-        "each public name is given out in its module": lambda: facade_faults(limits.modules, sources, parts),
+        "each name that is given out to authors is used": lambda: unused_names(tree, sources),
+        "each word of their clauses can be named": lambda: unnamed_words(tree, sources),
         "each fault of memory that is made has a reason": lambda: memory.unexplained(sources),
         "each wrong body can be applied, and changes code alone": lambda: edits.edit_faults(tree),
         "no fewer wrong bodies than there were": lambda: fewer("wrong bodies", len(edits.edits_of(tree)), limits.fewest_edits),

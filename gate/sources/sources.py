@@ -20,13 +20,14 @@ HEAD_END = re.compile(r"\{\}?$|;$|^\s*(?:pub(?:\(\w+\))? )?(?:const )?fn ", re.M
 
 @dataclass(frozen=True)
 class Function:
-    """A public function: its file, its type if it has one, its name, whether it is a method, and whether a clause says what it does."""
+    """A public function: its file, its type if it has one, its name, whether it is a method, whether a clause says what it does, and its head."""
 
     path: str
     type: str
     name: str
     is_method: bool
     has_clause: bool
+    head: str
 
     def __str__(self) -> str:
         return f"{self.type}::{self.name}" if self.type else self.name
@@ -71,7 +72,7 @@ class Source:
                 end = HEAD_END.search(code, found.end())
                 head = code[found.end() : end.start() if end else None]
                 has_clause = re.search(r"^\s*ensures\b", head, re.MULTILINE) is not None
-                yield Function(self.path, type_name if indent else "", name, receiver is not None, has_clause)
+                yield Function(self.path, type_name if indent else "", name, receiver is not None, has_clause, head)
 
 
 def sources_of(tree: Tree) -> List[Source]:

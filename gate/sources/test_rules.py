@@ -8,7 +8,7 @@ from rules import Limits, rules_of
 from tree import Tree
 
 LIMITS = Limits(
-    "Handles allowed: Threads, Wait.\n", {"tk_low": "lower", "tk_high": "upper"},
+    "Handles allowed: Threads, Wait.\n",
     ["crates/tk_low/src/lanes.rt spare"], 2, 2,
 )
 
@@ -83,8 +83,10 @@ TREE = {
     HIGH: "pub use tk_low::{Lane, LaneFault};\n\npub const TOP: u32 = 4;\n\npub fn high() -> u32\n    ensures { result ≡ 1 }\n{\n    1\n}\n",
     "crates/tk_high/must-fail/high.edit": "file: src/lib.rt\nold: u32 = 4\nnew: u32 = 5\nold: u32 = 5;\nnew: u32 = 6;\n",
     ROOT: "pub mod lower;\npub mod upper;\n\npub use lower::Lane;\npub use upper::high;\n",
+    "crates/engine_testkit/specs/Lib.antt": "pub use Rattle.tk_low.specs.Lanes\n",
+    "docs/ENGINES.md": "Name `Lane`, `LaneFault`:\n\n    boxed\n\n```rust\nTOP + high()\n```\n",
     UPPER: "pub use tk_high::TOP;\npub use tk_high::high;\n",
-    LOWER: "pub use tk_high::{Lane, LaneFault as LaneFault};\npub use tk_low::{\n    boxed,\n};\n",
+    LOWER: "pub use tk_low::{Lane, LaneFault as LaneFault};\npub use tk_low::{\n    boxed,\n};\n",
     TESTS: "#[test]\nfn lanes() {\n    Lane::new(alloc).spare();\n    assert!(lane.count() == boxed(alloc));\n}\n\n"
     "mod more {\n    #[test]\n    fn highs() {\n        assert!(high() == 1);\n    }\n}\n",
 }
@@ -122,9 +124,8 @@ WRONG = [
     ("an exception that has a clause", "lanes.rt spare is an exception that", changed(LOW, "spare(&self) {", "spare(&self)\n        ensures { result ≡ 1 }\n    {")),
     ("what is required is no clause", "high is public and has no clause", changed(HIGH, "ensures", "requires")),
     ("a clause of the next function", "high is public and has no clause", changed(HIGH, f"32\n{CLAUSE}{{\n", f"32 {{ 1 }}\nfn low()\n{CLAUSE}{{\n")),
-    ("a name that isn't given out", "tk_low::boxed is public, and not engine_testkit::lower alone but no module", changed(LOWER, "    boxed,\n", "")),
-    ("a name in two modules", "not engine_testkit::lower alone but ['lower', 'upper']", {UPPER: TREE[UPPER] + "pub use tk_low::boxed;\n"}),
-    ("a name that no library has", "gives out spare, which is no library's own", {LOWER: TREE[LOWER] + "pub use tk_low::spare;\n"}),
+    ("a name that a document only says", "gives out boxed, which no example", changed("docs/ENGINES.md", "    boxed", "boxed")),
+    ("a word that can't be named", "tk_low.specs.Lanes.lanes stands in a clause", {"crates/engine_testkit/specs/Lib.antt": "\n"}),
     ("no reason", "lanes.rt:21: a fault of memory is made", changed(LOW, f"// No allocation failed here:{REASON}", "//")),
     ("an error of memory for any", "a fault of memory is made", changed(LOW, "Err(LaneFault::Memory) =>", "Err(LaneFault::NoMemory) =>")),
     ("an error of memory for one of two", "a fault of memory is made", changed(LOW, "Err(LaneFault::Memory) =>", "Err(LaneFault::Memory | LaneFault::Full) =>")),

@@ -13,7 +13,6 @@ pub mod engine;
 pub mod laws;
 pub mod plans;
 pub mod questions;
-pub mod queue;
 pub mod record;
 
 pub use engine::{
