@@ -21,4 +21,11 @@ pub use Rattle.tk_engine_events.specs.Emitted
 pub use Rattle.tk_engine_unit_events.specs.declared.outcomes.Outcome
 pub use Rattle.tk_engine_unit_events.specs.UnitSteps
 pub use Rattle.tk_engine_hierarchical.specs.Reporting
+pub mod Questions
+pub mod Runs
+pub mod EventForms
+pub mod Identities
+pub mod Records
+pub mod Locks
+pub mod Plans
 pub mod Laws

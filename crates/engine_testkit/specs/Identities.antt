@@ -1,0 +1,7 @@
+-- What clauses cite of ids, descriptors and the table.
+pub use Rattle.tk_ids.specs.Answer.{IsMadeOf, IsReadAs, IsSegmentOf}
+pub use Rattle.tk_ids.specs.DTypes.{is_container, is_test}
+pub use Rattle.tk_ids.specs.IdText.{FitsLimits, IsBelow, IsEngine, IsId, IsNonEmptyText, id_text}
+pub use Rattle.tk_ids.specs.IdText.{parent_of}
+pub use Rattle.tk_ids.specs.Table.{AreDifferent, HasId, HasParent, IsAddedAs, IsInsertedAs}
+pub use Rattle.tk_ids.specs.Table.{addition, ids_of}
