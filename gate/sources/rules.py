@@ -6,6 +6,7 @@ from typing import Callable, Dict, List, Sequence
 import calls
 import edits
 import files
+import headline
 import memory
 from facade import unnamed_words, unused_names
 from reach import reach_faults
@@ -44,6 +45,7 @@ def rules_of(tree: Tree, limits: Limits) -> Dict[str, Rule]:
         "no code is unsafe or foreign": lambda: files.unsafe(sources),
         "lines of clauses and definitions can be read": lambda: files.long_lines(tree, sources),
         "specs/steps has what no public contract reaches, and nothing else": lambda: reach_faults(tree),
+        "each word of the headline is read": lambda: headline.unread_words(tree, sources),
         "HANDLES is unchanged": lambda: [] if tree.text("HANDLES") == limits.handles else [f"HANDLES differs from {limits.handles!r}"],
     }
 

@@ -154,6 +154,14 @@ WRONG = [
     ("a definition that a private clause names", "Lanes.antt: lanes: no public contract", changed(LOW, "pub fn count", "fn count")),
     ("steps that a clause names", "Boxes.antt: boxes: a public contract", changed(LOW, "specs.Lanes.{lanes}", "specs.steps.Boxes.{boxes as lanes}")),
     ("a definition that another one alone names", "Lanes.antt: rows: no public contract", changed("crates/tk_low/specs/Lanes.antt", "ℕ\n", "ℕ\nabbrev pub rows : ℕ\nrows = lanes\n")),
+    ("a word that the headline alone names", "Words.antt: nothing but the headline reads Spare", {
+        "crates.txt": TREE["crates.txt"] + "testkit_headline:\n", "crates/testkit_headline/src/lib.rt": "pub mod laws;\n",
+        "crates/testkit_headline/src/laws.rt": "ghost use Rattle.testkit_headline.specs.Words.{Kept};\nghost use Rattle.testkit_headline.specs.Headline.{Headline};\n"
+        "pub fn law()\n    ensures { Headline }\n    ensures kept { Kept }\n{\n}\n",
+        "crates/testkit_headline/specs/Lib.antt": "pub mod Words\npub mod Headline\n",
+        "crates/testkit_headline/specs/Words.antt": "abbrev pub Kept : Type 0\nabbrev pub Spare : Type 0\n",
+        "crates/testkit_headline/specs/Headline.antt": "use Rattle.testkit_headline.specs.Words.{Kept, Spare}\nabbrev pub Headline : Type 0\nHeadline = Kept × Spare\n",
+    }),
     ("other handles", "HANDLES differs", changed("HANDLES", "Wait.", "Wait, Net.")),
 ]
 
