@@ -34,6 +34,7 @@ use Rattle.tk_explanations.specs.declared.rows.Row.TheVariants.{
   NoneLeft,
   Counts,
   Overlap,
+  More,
   Sentence,
 }
 
@@ -66,6 +67,7 @@ row_text r (Event position note) = event_row r position (slice_get r.entries pos
 row_text r NoneLeft = codes "    no event is left"
 row_text r (Counts n m) = decimal n ++ codes " conditions, " ++ decimal m ++ codes " events"
 row_text r (Overlap x y) = span_text r x ++ codes " and " ++ span_text r y ++ codes " overlap"
+row_text r (More n) = codes "    and " ++ decimal n ++ codes " more"
 row_text r (Sentence sentence) = sentence_text r sentence
 
 -- a row as a line

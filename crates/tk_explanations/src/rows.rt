@@ -30,6 +30,8 @@ pub(crate) enum Row {
     Counts(usize, usize),
     /// These executions overlap.
     Overlap(Execution, Execution),
+    /// There are so many events more.
+    More(usize),
     /// Why the record doesn't keep the lifecycle.
     Sentence(Sentence),
 }
