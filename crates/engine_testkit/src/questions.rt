@@ -1,12 +1,12 @@
 //! Questions about a record: conditions, matchers, executions, which of them overlap, lifecycle, and
 //! what `ask` answers.
 pub use testkit_questions::{
-    AskFault, AskFaultText, ConditionsFault, Explainable, Mode, Overview, Question, Request, ask,
+    AskFault, AskFaultText, ConditionsFault, Mode, Question, QuestionName, Request, ask,
     read_conditions, read_question, read_request,
 };
 pub use tk_explanations::{
     ExplainFault, explain_exactly, explain_exclusive, explain_executions, explain_in_order,
-    explain_lifecycle, explain_list, explain_loosely,
+    explain_lifecycle, explain_list, explain_loosely, explain_statistics,
 };
 pub use tk_query::{
     ENDING_NAME, Ending, Exact, Exclusive, Execution, ExecutionIter, Executions, InOrder, Loose,

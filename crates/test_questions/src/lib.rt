@@ -20,4 +20,6 @@ mod refusals;
 #[cfg(test)]
 mod reports;
 #[cfg(test)]
+mod requests;
+#[cfg(test)]
 mod selections;

@@ -32,10 +32,12 @@ use Rattle.clap.specs.Words.{
   with_rule,
   with_subcommand,
 }
-use Rattle.clap.specs.declared.builder.action.ArgAction.TheVariants.{Set}
+use Rattle.clap.specs.declared.builder.action.ArgAction.TheVariants.{Set, SetTrue}
 use Rattle.tk_record_text.specs.Reading.{number_of}
 use Rattle.testkit_command_line.specs.declared.jobs.Job.{Job}
 use Rattle.testkit_command_line.specs.declared.jobs.Job.TheVariants as jobs
+use Rattle.testkit_command_line.specs.declared.jobs.RunOutput.{RunOutput}
+use Rattle.testkit_command_line.specs.declared.jobs.RunOutput.TheVariants as outputs
 use Rattle.testkit_command_line.specs.declared.faults.CommandLineFault.{CommandLineFault}
 use Rattle.testkit_command_line.specs.declared.faults.CommandLineFault.TheVariants as faults
 
@@ -47,25 +49,38 @@ IsAskLine words question = (name : List ℕ) × (words ≡ name ∷ codes "ask" 
 abbrev pub IsNoAskLine : List (List ℕ) → Type 0
 IsNoAskLine words = (question : List (List ℕ)) → ¬ IsAskLine words question
 
+-- What is written of a run whose flag has this value: its record at `true`, which a flag has that
+-- is given, else its report.
+abbrev pub output_by : Option (List ℕ) → RunOutput
+output_by None = outputs.Report
+output_by (Some text) =
+    if bytes_eq text (codes "true") then outputs.Record else outputs.Report
+
 -- a run by as many workers as the number says
-abbrev pub run_by_number : Option ℕ → Result Job CommandLineFault
-run_by_number None = Err faults.BadWords
-run_by_number (Some workers) = Ok (jobs.Run workers)
+abbrev pub run_by_number : Option ℕ → RunOutput → Result Job CommandLineFault
+run_by_number None output = Err faults.BadWords
+run_by_number (Some workers) output =
+    Ok (jobs.Run (record { workers = workers; output = output }))
 
 -- A run whose option has this value: by one worker where it was left out, else by as many as the
 -- number below 2^8 says.
-abbrev pub run_by : Option (List ℕ) → Result Job CommandLineFault
-run_by None = Ok (jobs.Run 1)
-run_by (Some text) = run_by_number (number_of (2 ^ 8) text)
+abbrev pub run_by : Option (List ℕ) → RunOutput → Result Job CommandLineFault
+run_by None output = Ok (jobs.Run (record { workers = 1; output = output }))
+run_by (Some text) output = run_by_number (number_of (2 ^ 8) text) output
 
 -- the option `--workers N`
 abbrev pub workers_option : Rule
 workers_option =
     record (new_rule (codes "workers")) { long = Some (codes "workers"); action = Some Set }
 
+-- the flag `--record`
+abbrev pub record_flag : Rule
+record_flag =
+    record (new_rule (codes "record")) { long = Some (codes "record"); action = Some SetTrue }
+
 -- the command `run`
 abbrev pub run_command : App
-run_command = with_rule (new_app (codes "run")) workers_option
+run_command = with_rule (with_rule (new_app (codes "run")) workers_option) record_flag
 
 -- the commands that the command-line crate reads, one of which is wanted: `run` and `replay`
 unfoldable pub commands : App
@@ -79,7 +94,9 @@ abbrev pub job_of_command : Option (List ℕ × List Row) → Result Job Command
 job_of_command None = Err faults.BadWords
 job_of_command (Some command) =
     if bytes_eq command.0 (codes "replay") then Ok jobs.Replay
-    else if bytes_eq command.0 (codes "run") then run_by (first_of (codes "workers") command.1)
+    else if bytes_eq command.0 (codes "run")
+    then run_by (first_of (codes "workers") command.1)
+    (output_by (first_of (codes "record") command.1))
     else Err faults.BadWords
 
 -- What words ask for that are no question: what the command asks for that the command-line crate

@@ -8,5 +8,5 @@ mod parsing;
 
 pub use arguments::{arguments_fault, collect_words};
 pub use faults::CommandLineFault;
-pub use jobs::Job;
+pub use jobs::{Job, RunOptions, RunOutput};
 pub use parsing::job_of;

@@ -3,11 +3,11 @@ ghost use Rattle.std.specs.Prelude.{◌≡◌, ℕ, List, [], codes, map, string
 ghost use Rattle.clap.specs.Words.{FailsBy, HasMatchesOf, app_of, fault_of, first_value, found_of, kind_of, rows_of};
 ghost use Rattle.clap.specs.declared.builder.command.Command.TheViews.{out-Command as fields_of};
 ghost use Rattle.testkit_command_line.specs.declared.faults.CommandLineFault.TheVariants.{Memory};
-ghost use Rattle.testkit_command_line.specs.CommandLines.{IsJobOf, IsNoJob, commands, job_of_command, other_job, run_by, run_command};
+ghost use Rattle.testkit_command_line.specs.CommandLines.{IsJobOf, IsNoJob, commands, job_of_command, other_job, output_by, run_by, run_command};
 ghost use Rattle.testkit_command_line.specs.steps.CommandLines.{fault_of_parse};
 
 use crate::faults::{CommandLineFault, parse_fault};
-use crate::jobs::Job;
+use crate::jobs::{Job, RunOptions, RunOutput};
 use clap::error::ErrorKind;
 use clap::{Arg, ArgAction, ArgMatches, Command, Error};
 use std::alloc::Global;
@@ -21,7 +21,10 @@ fn run_command<'w>(alloc: Global) -> Result<Command<'w>, Error>
     let workers = Arg::new(alloc, "workers")
         .long("workers")
         .action(ArgAction::Set);
-    Ok(Command::new(alloc, "run").arg(workers)?)
+    let record = Arg::new(alloc, "record")
+        .long("record")
+        .action(ArgAction::SetTrue);
+    Ok(Command::new(alloc, "run").arg(workers)?.arg(record)?)
 }
 
 /// The commands that the command-line crate reads: all but `ask`.
@@ -36,15 +39,27 @@ fn command<'w>(alloc: Global) -> Result<Command<'w>, Error>
     Ok(command.subcommand(Command::new(alloc, "replay"))?)
 }
 
+/// What is written of a run: its record where the flag is there, else its report.
+fn output_of(matches: &ArgMatches<'_>) -> RunOutput
+    ensures { result ≡ output_by (first_value (found_of matches.now) (codes "record")) }
+{
+    match matches.get_str("record") {
+        Some("true") => RunOutput::Record,
+        _ => RunOutput::Report,
+    }
+}
+
 /// The run of a plan by as many workers as the option says, or by one.
 fn run_of<'w>(matches: &ArgMatches<'w>) -> Result<Job<'w>, CommandLineFault>
-    ensures { result ≡ run_by (first_value (found_of matches.now) (codes "workers")) }
+    ensures { result ≡ run_by (first_value (found_of matches.now) (codes "workers"))
+        (output_by (first_value (found_of matches.now) (codes "record"))) }
 {
+    let output = output_of(matches);
     let Some(text) = matches.get_str("workers") else {
-        return Ok(Job::Run(1));
+        return Ok(Job::Run(RunOptions { workers: 1, output }));
     };
     match read_u8(text.as_bytes()) {
-        Some(workers) => Ok(Job::Run(workers)),
+        Some(workers) => Ok(Job::Run(RunOptions { workers, output })),
         None => Err(CommandLineFault::BadWords),
     }
 }

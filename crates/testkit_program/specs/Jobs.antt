@@ -4,6 +4,9 @@ use Rattle.std.specs.Prelude.{map, string_bytes}
 use Rattle.std.specs.Io.KnownBytes.{Appends}
 use Rattle.testkit_command_line.specs.declared.jobs.Job.{Job}
 use Rattle.testkit_command_line.specs.declared.jobs.Job.TheVariants as jobs
+use Rattle.testkit_command_line.specs.declared.jobs.RunOptions.{RunOptions}
+use Rattle.testkit_command_line.specs.declared.jobs.RunOutput.{RunOutput}
+use Rattle.testkit_command_line.specs.declared.jobs.RunOutput.TheVariants as outputs
 use Rattle.testkit_command_line.specs.CommandLines.{IsJobOf, IsNoJob}
 use Rattle.testkit_command_line.specs.declared.faults.CommandLineFault.{CommandLineFault}
 use Rattle.testkit_program.specs.Statuses.{fault_of_line}
@@ -21,7 +24,7 @@ use Rattle.tk_record_text.specs.declared.reading.TheConstants.{MAX_TEXT}
 use Rattle.tk_streams.specs.Stream.{AppendsPrefix}
 use Rattle.tk_queue_replay.specs.ReplayText.{IsWritten, IsPartlyWritten, Plays}
 use Rattle.tk_queue_replay.specs.ReplayText.{IsAnswer as IsPlayedAs}
-use Rattle.tk_plan_runs.specs.Answers.{OfPlan, MayWork, IsNoPlan, IsNotRun}
+use Rattle.tk_plan_runs.specs.Answers.{OfPlan, OfRun, MayWork, IsNoPlan, IsNotRun}
 use Rattle.testkit_questions.specs.Asked.{AddsAnswer, AddsPrefix, IsRefusal}
 use Rattle.testkit_questions.specs.Asked as asked
 
@@ -38,10 +41,19 @@ transfer input old new = record { input = input; old = old; new = new }
 abbrev pub IfLoaded : Transfer → (List ℕ → Type 0) → Type 0
 IfLoaded t Holds = IfSome t.input (λ bytes. (length bytes ≤ MAX_TEXT) × Holds bytes)
 
--- the input is a plan that may be run by `workers` workers, and its report was written
-abbrev pub IsPlanReported : ℕ → Transfer → Type 0
-IsPlanReported workers t =
-    IfLoaded t (λ bytes. OfPlan bytes (Appends t.old t.new)) × MayWork workers
+-- the bytes are a plan, and W holds of what is written of it: the plan's report, or the text of the
+-- record of a run by so many workers
+abbrev pub OfOutput : RunOutput → ℕ → List ℕ → (List ℕ → Type 0) → Type 0
+OfOutput outputs.Report workers bytes W = OfPlan bytes W
+OfOutput outputs.Record workers bytes W = OfRun bytes workers W
+
+abbrev pub OfOptions : RunOptions → List ℕ → (List ℕ → Type 0) → Type 0
+OfOptions options = OfOutput options.output options.workers
+
+-- the input is a plan that may be run by so many workers, and a text of its run was written
+abbrev pub IsPlanDone : RunOptions → Transfer → Type 0
+IsPlanDone options t =
+    IfLoaded t (λ bytes. OfOptions options bytes (Appends t.old t.new)) × MayWork options.workers
 
 -- what doing a job writes, and whether it is a yes
 abbrev pub IsDone : Job → Transfer → Bool → Type 0
@@ -49,7 +61,7 @@ IsDone (jobs.Ask question) t is_yes =
     IfSome t.input (λ bytes. AddsAnswer (map string_bytes question.now) bytes is_yes t.old t.new)
 IsDone jobs.Replay t is_yes =
     (is_yes ≡ true) × IfLoaded t (λ bytes. IsWritten bytes t.old t.new)
-IsDone (jobs.Run workers) t is_yes = (is_yes ≡ true) × IsPlanReported workers t
+IsDone (jobs.Run options) t is_yes = (is_yes ≡ true) × IsPlanDone options t
 
 -- why a question is not answered; at a broken device a prefix of the answer was written
 abbrev pub IsAskFault : List (List ℕ) → Transfer → AskFault → Type 0
@@ -68,14 +80,16 @@ IsReplayFault t replays.Device = IsPartlyReplayed t
 IsReplayFault t fault =
     IfSome t.input (λ bytes. IsPlayedAs bytes (Err fault)) × IsPartlyReplayed t
 
--- Why a plan that is run by this number of workers is not reported. The number of workers is judged
--- after the plan.
-abbrev pub IsReportFault : ℕ → Transfer → ReportFault → Type 0
-IsReportFault workers t (reports.Plan fault) = IfLoaded t (λ bytes. IsNoPlan bytes fault)
-IsReportFault workers t (reports.Run fault) = IfLoaded t (λ bytes. IsNotRun bytes workers fault)
-IsReportFault workers t reports.Device =
-    IfLoaded t (λ bytes. OfPlan bytes (AppendsPrefix t.old t.new)) × MayWork workers
-IsReportFault workers t reports.Memory = Unit {0}
+-- Why nothing, or a part, is written of a plan that is run so. The number of workers is judged after
+-- the plan.
+abbrev pub IsReportFault : RunOptions → Transfer → ReportFault → Type 0
+IsReportFault options t (reports.Plan fault) = IfLoaded t (λ bytes. IsNoPlan bytes fault)
+IsReportFault options t (reports.Run fault) =
+    IfLoaded t (λ bytes. IsNotRun bytes options.workers fault)
+IsReportFault options t reports.Device =
+    IfLoaded t (λ bytes. OfOptions options bytes (AppendsPrefix t.old t.new))
+    × MayWork options.workers
+IsReportFault options t reports.Memory = Unit {0}
 
 -- the fault is of the words alone
 abbrev pub IsOfWords : Fault → Type 0
@@ -97,10 +111,10 @@ abbrev pub IsRefused : Job → Transfer → Fault → Type 0
 IsRefused (jobs.Ask question) t (faults.Ask fault) =
     IsAskFault (map string_bytes question.now) t fault
 IsRefused jobs.Replay t (faults.Replay fault) = IsReplayFault t fault
-IsRefused (jobs.Run workers) t (faults.Load loads.TooLarge) =
+IsRefused (jobs.Run options) t (faults.Load loads.TooLarge) =
     IfSome t.input (λ bytes. MAX_TEXT < length bytes)
-IsRefused (jobs.Run workers) t (faults.Load fault) = Unit {0}
-IsRefused (jobs.Run workers) t (faults.Report fault) = IsReportFault workers t fault
+IsRefused (jobs.Run options) t (faults.Load fault) = Unit {0}
+IsRefused (jobs.Run options) t (faults.Report fault) = IsReportFault options t fault
 IsRefused job t _ = ⊥
 
 -- which of a job's devices are broken

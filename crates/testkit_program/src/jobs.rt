@@ -1,12 +1,13 @@
 //! The jobs of the program.
-ghost use Rattle.std.specs.Prelude.{◌≡◌, ◌+◌, ◌⊎◌, true, map, string_bytes, Err, IfErr, IfOk, OnOk};
+ghost use Rattle.std.specs.Prelude.{◌≡◌, ◌+◌, ◌⊎◌, true, map, string_bytes, Err, IfErr, IfOk, IsErrOf, OnOk};
 ghost use Rattle.tk_record_text.specs.declared.reading.TheConstants.{MAX_TEXT};
 ghost use Rattle.tk_streams.specs.Stream.{ConsumesUpTo};
 ghost use Rattle.tk_streams.specs.declared.transfers.LoadFault.{LoadFault};
 ghost use Rattle.tk_streams.specs.declared.transfers.TheConstants.{CHUNK};
 ghost use Rattle.testkit_program.specs.declared.faults.Fault.TheVariants.{Load, Report};
 ghost use Rattle.testkit_program.specs.Jobs.{IsBroken, IsDone, IsInWriting, IsNotPerformed, IsOfWords, IsPerformed, IsRefused, devices, transfer};
-ghost use Rattle.testkit_program.specs.steps.Jobs.{IsPlanOutcome, IsRunOutcome};
+ghost use Rattle.testkit_program.specs.steps.Jobs.{IsPlanOutcome, IsRunOutcome, output_text};
+ghost use Rattle.tk_plan_runs.specs.Answers.{IsRunText};
 ghost use Rattle.testkit_program.specs.Statuses.{fault_of_line};
 ghost use Rattle.testkit_command_line.specs.declared.jobs.Job.TheVariants as jobs;
 
@@ -15,26 +16,46 @@ use std::alloc::Global;
 use std::mem;
 use std::sync::Wait;
 use std::thread::Threads;
-use testkit_command_line::{CommandLineFault, Job, job_of};
+use testkit_command_line::{CommandLineFault, Job, RunOptions, RunOutput, job_of};
 use testkit_questions::ask;
-use tk_plan_runs::{PlanRun, ReportFault, run_plan, write_report};
+use tk_engine_execute::Results;
+use tk_plan_runs::{PlanRun, ReportFault, run_plan, write_report, write_run_record};
 use tk_queue_replay::replay_text;
 use tk_record_text::MAX_TEXT;
 use tk_streams::{LoadFault, Source, Target, load};
 
-/// Writes the report of a plan's run, or answers why the plan was not run.
+// Writes the report or the record of a run.
+fn write_results<T: Target>(
+    alloc: Global,
+    results: &Results,
+    output: RunOutput,
+    target: &mut T,
+) -> Result<(), ReportFault>
+    ensures answer { IsRunText (output_text output results.now.recorded)
+        (T.contents target.old) (T.contents target.new) result }
+    ensures unwritten { IsErrOf result ReportFault.Memory → target.new ≡ target.old }
+    ensures device { IsErrOf result ReportFault.Device → T.broken target.new ≡ true }
+{
+    match output {
+        RunOutput::Report => write_report(alloc, results, target),
+        RunOutput::Record => write_run_record(alloc, results, target),
+    }
+}
+
+/// Writes the report or the record of a plan's run, or answers why the plan was not run.
 ///
 /// The run's record isn't freed: the program ends after its job, and the system then takes all
 /// memory at once. Freeing plan and record block by block took up to a fifth of the program's time,
 /// freeing the plan alone no time that could be measured.
-fn report_run<T: Target>(
+fn write_run<T: Target>(
     alloc: Global,
     run: Result<PlanRun, ReportFault>,
+    output: RunOutput,
     target: &mut T,
 ) -> Result<bool, Fault>
     ensures not_run { IfErr run (λ fault. result ≡ Err (Report fault)) }
-    ensures run { IfOk run (λ run. IsRunOutcome run (T.contents target.old)
-        (T.contents target.new) result) }
+    ensures run { IfOk run (λ run. IsRunOutcome (output_text output run.results.recorded)
+        (T.contents target.old) (T.contents target.new) result) }
     ensures unwritten { IfErr result (λ fault.
         IsInWriting fault ⊎ (target.new ≡ target.old)) }
     ensures device { IfOk run (λ _.
@@ -46,7 +67,7 @@ fn report_run<T: Target>(
     };
     // The report gets the memory of the plan.
     drop(run.engine);
-    let written = write_report(alloc, &run.results, target);
+    let written = write_results(alloc, &run.results, output, target);
     mem::forget(run.results);
     match written {
         Ok(()) => Ok(true),
@@ -54,16 +75,17 @@ fn report_run<T: Target>(
     }
 }
 
-/// Runs the plan of loaded bytes and writes its report, or answers why the bytes were not loaded.
-fn report_loaded<R: Threads + Wait + Sync, T: Target>(
+/// Runs the plan of loaded bytes and writes its report or the run's record, or answers why the bytes
+/// were not loaded.
+fn run_loaded<R: Threads + Wait + Sync, T: Target>(
     rt: &R,
     alloc: Global,
-    workers: u8,
+    options: RunOptions,
     loaded: Result<Vec<u8>, LoadFault>,
     target: &mut T,
 ) -> Result<bool, Fault>
     ensures not_loaded { IfErr loaded (λ fault. result ≡ Err (Load fault)) }
-    ensures loaded { IfOk loaded (λ bytes. IsPlanOutcome bytes.items workers
+    ensures loaded { IfOk loaded (λ bytes. IsPlanOutcome bytes.items options
         (T.contents target.old) (T.contents target.new) result) }
     ensures unwritten { IfErr result (λ fault.
         IsInWriting fault ⊎ (target.new ≡ target.old)) }
@@ -73,23 +95,23 @@ fn report_loaded<R: Threads + Wait + Sync, T: Target>(
         Ok(bytes) => bytes,
         Err(fault) => return Err(Fault::Load(fault)),
     };
-    let run = run_plan(rt, alloc, bytes.as_slice(), workers as usize);
+    let run = run_plan(rt, alloc, bytes.as_slice(), options.workers as usize);
     // The report gets the memory of the plan's text.
     drop(bytes);
-    report_run(alloc, run, target)
+    write_run(alloc, run, options.output, target)
 }
 
-/// Runs the plan of the source's bytes and writes its report.
-fn report_plan<R: Threads + Wait + Sync, S: Source, T: Target>(
+/// Runs the plan of the source's bytes, and writes its report or the run's record.
+fn do_run<R: Threads + Wait + Sync, S: Source, T: Target>(
     rt: &R,
     alloc: Global,
-    workers: u8,
+    options: RunOptions,
     source: &mut S,
     target: &mut T,
 ) -> Result<bool, Fault>
-    ensures reported { IfOk result (IsDone (jobs.Run workers)
+    ensures reported { IfOk result (IsDone (jobs.Run options)
         (transfer (S.remaining source.old) (T.contents target.old) (T.contents target.new))) }
-    ensures refused { IfErr result (IsRefused (jobs.Run workers)
+    ensures refused { IfErr result (IsRefused (jobs.Run options)
         (transfer (S.remaining source.old) (T.contents target.old) (T.contents target.new))) }
     ensures unread { IfErr result (λ fault. IsOfWords fault → source.new ≡ source.old) }
     ensures unwritten { IfErr result (λ fault.
@@ -100,11 +122,11 @@ fn report_plan<R: Threads + Wait + Sync, S: Source, T: Target>(
         → ConsumesUpTo (MAX_TEXT + CHUNK) (S.remaining source.old) (S.remaining source.new) }
 {
     let loaded = load(alloc, source, MAX_TEXT);
-    report_loaded(rt, alloc, workers, loaded, target)
+    run_loaded(rt, alloc, options, loaded, target)
 }
 
 /// Does a job: answers a question, replays a script of the queue, or runs a plan with the job's
-/// number of workers and reports the run.
+/// number of workers and writes the run's report or its record.
 ///
 /// The answer is `false` where a match says no or an expectation fails, and else `true`. The record
 /// of a plan's run isn't freed, since a program ends after its job.
@@ -140,7 +162,7 @@ pub fn do_job<R: Threads + Wait + Sync, S: Source, T: Target>(
             Ok(()) => Ok(true),
             Err(fault) => Err(Fault::Replay(fault)),
         },
-        Job::Run(workers) => report_plan(rt, alloc, workers, source, target),
+        Job::Run(options) => do_run(rt, alloc, options, source, target),
     }
 }
 

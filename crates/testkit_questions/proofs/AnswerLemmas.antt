@@ -1,25 +1,25 @@
 -- The events that a question counts.
 use Rattle.std.proofs.Common.{◌≡◌, ℕ, ◌+◌, ◌<◌, Bool, true, false, cond, ◌&&◌, List, [], ◌∷◌, ◌++◌, length, take, get_or, count_by, refl, sym, ap, ◌∙◌, arith}
-use Rattle.std.specs.Prelude.{filter}
+use Rattle.std.specs.Prelude.{filter, ◌==◌}
 use Rattle.std.proofs.lemmas.List.Sums.{sum_by-cons}
 use Rattle.tk_events.specs.declared.events.Entry.{Entry}
-use Rattle.std.specs.Prelude.{◌==◌}
 use Rattle.std.specs.List.{flat_map, list_all}
 use Rattle.std.proofs.lemmas.List.Elements.{filter_agree}
 use Rattle.std.proofs.lemmas.List.Folds.{list_all_more}
 use Rattle.tk_base.proofs.Truth.{and-true}
-use Rattle.tk_record.specs.declared.statistics.Statistics.{Statistics}
-use Rattle.tk_record.specs.declared.statistics.Expected.{Expected}
-use Rattle.tk_record.specs.declared.statistics.Mismatch.{Mismatch}
 use Rattle.tk_record.specs.Recorded.{Recorded}
-use Rattle.tk_record.specs.Selections.{PositionedEntry, positioned_from, positioned, Selected, all_of, events_of, filtered_by, selects}
+use Rattle.tk_record.specs.Selections.{PositionedEntry, positioned_from, positioned, Selected, filtered_by, selects}
 use Rattle.tk_record.specs.declared.selections.Selection.{Selection}
 use Rattle.tk_query_conditions.specs.declared.conditions.Condition.{Condition}
 use Rattle.tk_query.specs.Holds.{holds}
-use Rattle.tk_record.specs.Statistics.{statistics_of, mismatches}
-use Rattle.tk_record.proofs.PickedEntries.{all_events}
+use Rattle.tk_record.specs.Selections.{events_of}
+use Rattle.tk_record.specs.Statistics.{mismatches, statistics_of}
+use Rattle.tk_record.specs.declared.statistics.Expected.{Expected}
+use Rattle.tk_record.specs.declared.statistics.Mismatch.{Mismatch}
+use Rattle.tk_record.specs.declared.statistics.Statistics.{Statistics}
 use Rattle.tk_record_text.specs.StatisticsText.{statistics_text}
-use Rattle.testkit_questions.specs.Answers.{IsAnswerTo, events_where, mismatch_line}
+use Rattle.testkit_questions.specs.Answers.{IsAnswerTo, events_where, mismatch_line, picked}
+use Rattle.testkit_questions.specs.declared.answers.Answer.{Answer}
 use Rattle.testkit_questions.specs.declared.questions.Question.TheVariants.{Stats}
 
 -- those kept are as many as the entries that pass
@@ -34,14 +34,21 @@ kept_count p n (e ∷ es) = by (p e) (kept_count p (n + 1) es) ∙ sym (sum_by-c
     by false rest = omega (arith, rest)
 
 -- the answer about statistics, from its parts
-pub stats_are : (e : Expected) (r : Recorded) (events : Selected) (s : Statistics) (ms : List Mismatch) (is_yes : Bool) (text : List ℕ) →
-    events ≡ all_of r → s ≡ statistics_of (events_of events) → ms ≡ mismatches e (statistics_of (events_of events)) → is_yes ≡ (length ms == 0) →
-    text ≡ statistics_text s ++ flat_map mismatch_line ms → IsAnswerTo (Stats e) r is_yes text
-stats_are e r events s ms is_yes text all s_is ms_is yes_is text_is =
-    let es : events_of events ≡ r.entries = ap events_of all ∙ all_events 0 r.entries in
-    let m = ms_is ∙ ap (λ (l : List Entry). mismatches e (statistics_of l)) es in (
-      yes_is ∙ ap (λ (l : List Mismatch). length l == 0) m,
-      text_is ∙ ap (λ (t : Statistics). statistics_text t ++ flat_map mismatch_line ms) (s_is ∙ ap statistics_of es) ∙ ap (λ (l : List Mismatch). statistics_text (statistics_of r.entries) ++ flat_map mismatch_line l) m,
+pub stats_are : (selection : Selection) (e : Expected) (r : Recorded) (events : Selected)
+    (s : Statistics) (ms : List Mismatch) (answer : Answer) → events ≡ picked selection r
+    → s ≡ statistics_of (events_of events) → ms ≡ mismatches e (statistics_of (events_of events))
+    → (answer.is_yes ≡ (length ms == 0))
+    × (answer.text.items ≡ statistics_text s ++ flat_map mismatch_line ms)
+    → IsAnswerTo (Stats selection e) r answer.is_yes answer.text.items
+stats_are selection e r events s ms answer is s_is ms_is said =
+    let all = ap (λ (x : Selected). statistics_of (events_of x)) is in
+    let m = ms_is ∙ ap (mismatches e) all in (
+      said.0 ∙ ap (λ (l : List Mismatch). length l == 0) m,
+      said.1
+          ∙ ap (λ (t : Statistics). statistics_text t ++ flat_map mismatch_line ms) (s_is ∙ all)
+          ∙ ap (λ (l : List Mismatch).
+          statistics_text (statistics_of (events_of (picked selection r)))
+          ++ flat_map mismatch_line l) m,
     )
 
 -- ---- events that a selection picks and of which conditions hold
@@ -61,11 +68,12 @@ filter_both {X = X} p q both is (x ∷ xs) = by (p x) (q x) refl (filter_both p 
     by false b e rest = rest
 
 -- before the first condition
-pub where_none : (s : Selection) (r : Recorded) (all picked : Selected) → all ≡ all_of r → picked ≡ filtered_by (selects s all.recorded) all → picked ≡ events_where s [] r
-where_none s r all picked all_is is =
-    is ∙ ap (λ (e : Selected). filtered_by (selects s e.recorded) e) all_is
-    ∙ ap (λ (kept : List PositionedEntry). record { recorded = r; kept = kept })
-    (filter_agree (λ x. selects s r x.entry) (λ x. selects s r x.entry && true) (λ x. sym (and-true (selects s r x.entry))) (positioned r.entries))
+pub where_none : (s : Selection) (r : Recorded) (events : Selected) → events ≡ picked s r
+    → events ≡ events_where s [] r
+where_none s r events is =
+    is ∙ ap (λ (kept : List PositionedEntry). record { recorded = r; kept = kept })
+    (filter_agree (λ x. selects s r x.entry) (λ x. selects s r x.entry && true)
+    (λ x. sym (and-true (selects s r x.entry))) (positioned r.entries))
 
 -- one condition more
 pub where_more : (s : Selection) (cs : List Condition) (i : ℕ) (c : Condition) (r : Recorded) (before after : Selected) → i < length cs → c ≡ get_or cs i c → before ≡ events_where s (take i cs) r

@@ -1,26 +1,24 @@
 -- An answer, from what reading and writing gave.
-use Rattle.std.proofs.Common.{sym, ◌≡◌, ◌⊎◌, arith, [], ℕ, Bool, List, Option, Some, None, Result, Ok, Err, refl, subst, inl, inr}
-use Rattle.std.specs.Prelude.{IfErr, IfOk, IfSome, IsErrOf, OnOk}
+use Rattle.std.proofs.Common.{sym, ◌≡◌, ◌⊎◌, arith, [], ℕ, Bool, List, Option, Some, None, Result}
+use Rattle.std.proofs.Common.{Ok, Err, refl, subst, inl, inr}
+use Rattle.std.specs.Prelude.{IfSome, IsErrOf}
+use Rattle.std.specs.Io.KnownBytes.{Consumes, IsAtEnd}
 use Rattle.tk_record.specs.Recorded.{Recorded}
 use Rattle.tk_record_text.specs.Text.{IsAnswer}
-use Rattle.testkit_questions.specs.declared.requests.Request.{Request}
-use Rattle.testkit_questions.specs.declared.faults.AskFault.{AskFault}
-use Rattle.testkit_questions.specs.declared.faults.AskFault.TheVariants as faults
 use Rattle.tk_record_text.specs.declared.reading.ReadFault.{ReadFault}
 use Rattle.tk_record_text.specs.declared.reading.ReadFault.TheVariants as read
-use Rattle.testkit_questions.specs.Requests.{IsRequestedAs, Requests}
 use Rattle.tk_explanations.specs.Explained.{IsExplained}
 use Rattle.tk_explanations.specs.declared.faults.ExplainFault.{ExplainFault}
 use Rattle.tk_explanations.specs.declared.faults.ExplainFault.TheVariants as explain_faults
-use Rattle.testkit_questions.specs.declared.questions.Explainable.{Explainable}
-use Rattle.testkit_questions.specs.declared.requests.Request.TheVariants as requests
-use Rattle.testkit_questions.specs.Explanations.{Explains}
-use Rattle.testkit_questions.specs.FaultsOfExplanations.{ask_fault_of}
-use Rattle.testkit_questions.proofs.RequestLemmas.{condition_read, of_no_device, of_no_source}
-use Rattle.std.specs.Io.KnownBytes.{Consumes, IsAtEnd}
+use Rattle.testkit_questions.specs.declared.faults.AskFault.{AskFault}
+use Rattle.testkit_questions.specs.declared.faults.AskFault.TheVariants as faults
+use Rattle.testkit_questions.specs.declared.questions.Request.{Request}
 use Rattle.testkit_questions.specs.Asked.{AddsAnswer, AddsPrefix, IsOfWords, IsReadInTime}
 use Rattle.testkit_questions.specs.Asked.{IsReadRefusal, IsRefusal}
-use Rattle.testkit_questions.specs.steps.Asked.{IsReply, Written}
+use Rattle.testkit_questions.specs.Explanations.{IsResponseTo}
+use Rattle.testkit_questions.specs.FaultsOfExplanations.{ask_fault_of}
+use Rattle.testkit_questions.specs.Requests.{IsRequestedAs, Requests}
+use Rattle.testkit_questions.proofs.RequestLemmas.{IsFaultOfWords, fault_of_words}
 
 -- the fault that a result has
 pub same_fault : {T : Type 0} (a b : AskFault) → IsErrOf {T = T} (Err a) b → a ≡ b
@@ -29,91 +27,60 @@ same_fault a b e = cc
 pub no_fault : {T : Type 0} (x : T) (fault : AskFault) → ¬ (IsErrOf (Ok x) fault)
 no_fault x fault e = cc
 
+memory_no_device : faults.Memory ≡ faults.Device → ⊥
+memory_no_device e = cc
+
 if_known : (input : Option (List ℕ)) (P Q : List ℕ → Type 0) → ((b : List ℕ) → P b → Q b) → IfSome input P → IfSome input Q
 if_known None P Q f h = tt
 if_known (Some b) P Q f h = f b h
 
--- ---- what a reply says of the whole question
+-- ---- what writing says of the whole request
 
-pub replied : (words : List (List ℕ)) (input : Option (List ℕ)) (q : Request) (r : Recorded) (w : Written) (result : Result Bool AskFault) → Requests words q → IfSome input (λ b. IsAnswer b (Ok r)) → IsReply q r w result
-    → IfOk result (λ is_yes. IfSome input (λ b. AddsAnswer words b is_yes w.old w.new))
-replied words input q r w (Ok is_yes) asks had reply =
-    if_known input (λ b. IsAnswer b (Ok r)) (λ b. AddsAnswer words b is_yes w.old w.new) (λ b h. (reply.0, (q, asks, (r, h, reply.1)), reply.2)) had
-replied words input q r w (Err fault) asks had reply = tt
+-- what a target held before and after, and what is written of a request about a record
+abbrev IsWrittenOf : Request → Recorded → Option (List ℕ) → Option (List ℕ) → Result Bool ExplainFault → Type 0
+IsWrittenOf q r old new result = IsExplained (IsResponseTo q r) old new result
 
-pub replied_partly : (words : List (List ℕ)) (input : Option (List ℕ)) (q : Request) (r : Recorded) (w : Written) (result : Result Bool AskFault) → Requests words q → IfSome input (λ b. IsAnswer b (Ok r)) → IsReply q r w result
-    → IsErrOf result faults.Device → IfSome input (λ b. AddsPrefix words b w.old w.new)
-replied_partly words input q r w (Ok is_yes) asks had reply e = absurd (no_fault _ _ e)
-replied_partly words input q r w (Err fault) asks had reply e = if_known input (λ b. IsAnswer b (Ok r)) (λ b. AddsPrefix words b w.old w.new) (λ b h. (part.0, part.1, (q, asks, (r, h, part.2)), part.3)) had
-  where
-    part : IsReply q r w (Err faults.Device)
-    part = subst (λ (f : AskFault). IsReply q r w (Err f)) (same_fault fault faults.Device e) reply
+module _ (words : List (List ℕ)) (q : Request) (asks : Requests words q) where
+  pub answered : (input : Option (List ℕ)) (r : Recorded) (old new : Option (List ℕ)) (is_yes : Bool) → IfSome input (λ b. IsAnswer b (Ok r))
+      → IsWrittenOf q r old new (Ok is_yes) → IfSome input (λ b. AddsAnswer words b is_yes old new)
+  answered input r old new is_yes had w =
+      if_known input (λ b. IsAnswer b (Ok r)) (λ b. AddsAnswer words b is_yes old new)
+      (λ b h. (w.0, (q, asks, (r, h, w.1)), w.2)) had
 
-pub replied_unwritten : (q : Request) (r : Recorded) (w : Written) (result : Result Bool AskFault) (Same : Type 0) → IsReply q r w result
-    → (IsErrOf result faults.Memory → Same) → IfErr result (λ fault. (fault ≡ faults.Device) ⊎ Same)
-replied_unwritten q r w (Ok is_yes) Same reply same = tt
-replied_unwritten q r w (Err faults.Question) Same reply same = absurd reply
-replied_unwritten q r w (Err (faults.Word i)) Same reply same = absurd reply
-replied_unwritten q r w (Err (faults.Condition i fault)) Same reply same = absurd reply
-replied_unwritten q r w (Err (faults.Read fault)) Same reply same = absurd reply
-replied_unwritten q r w (Err faults.Device) Same reply same = inl refl
-replied_unwritten q r w (Err faults.Memory) Same reply same = inr (same refl)
+  pub answered_partly : (input : Option (List ℕ)) (r : Recorded) (old new : Option (List ℕ)) (fault : ExplainFault) → IfSome input (λ b. IsAnswer b (Ok r))
+      → IsWrittenOf q r old new (Err fault) → ask_fault_of fault ≡ faults.Device → IfSome input (λ b. AddsPrefix words b old new)
+  answered_partly input r old new explain_faults.Device had w e =
+      if_known input (λ b. IsAnswer b (Ok r)) (λ b. AddsPrefix words b old new)
+      (λ b h. (w.0, w.1, (q, asks, (r, h, w.2)), w.3)) had
+  answered_partly input r old new explain_faults.Memory had w e = absurd (memory_no_device e)
 
-pub replied_refusal : (words : List (List ℕ)) (input : Option (List ℕ)) (q : Request) (r : Recorded) (w : Written) (result : Result Bool AskFault) → Requests words q → IsReply q r w result → IfErr result (λ fault. IsRefusal words input fault)
-replied_refusal words input q r w (Ok is_yes) asks reply = tt
-replied_refusal words input q r w (Err faults.Question) asks reply = absurd reply
-replied_refusal words input q r w (Err (faults.Word i)) asks reply = absurd reply
-replied_refusal words input q r w (Err (faults.Condition i fault)) asks reply = absurd reply
-replied_refusal words input q r w (Err (faults.Read fault)) asks reply = absurd reply
-replied_refusal words input q r w (Err faults.Device) asks reply = (q, asks)
-replied_refusal words input q r w (Err faults.Memory) asks reply = tt
+  pub answered_refusal : (input : Option (List ℕ)) (fault : ExplainFault) → IsRefusal words input (ask_fault_of fault)
+  answered_refusal input explain_faults.Device = (q, asks)
+  answered_refusal input explain_faults.Memory = tt
 
-pub replied_unread : (q : Request) (r : Recorded) (w : Written) (result : Result Bool AskFault) (P : Type 0) → IsReply q r w result → IfErr result (λ fault. IsOfWords fault → P)
-replied_unread q r w (Ok is_yes) P reply = tt
-replied_unread q r w (Err faults.Question) P reply = absurd reply
-replied_unread q r w (Err (faults.Word i)) P reply = absurd reply
-replied_unread q r w (Err (faults.Condition i fault)) P reply = absurd reply
-replied_unread q r w (Err (faults.Read fault)) P reply = absurd reply
-replied_unread q r w (Err faults.Device) P reply = λ h. absurd h
-replied_unread q r w (Err faults.Memory) P reply = λ h. absurd h
+pub written_unread : (fault : ExplainFault) → ¬ (IsOfWords (ask_fault_of fault))
+written_unread explain_faults.Device h = h
+written_unread explain_faults.Memory h = h
 
-pub replied_no_source : (q : Request) (r : Recorded) (w : Written) (result : Result Bool AskFault) (fault : ReadFault) → IsReply q r w result → ¬ (result ≡ Err (faults.Read fault))
-replied_no_source q r w result fault reply e = subst (λ (x : Result Bool AskFault). IsReply q r w x) e reply
+pub written_no_source : (fault : ExplainFault) (why : ReadFault) → ¬ (ask_fault_of fault ≡ faults.Read why)
+written_no_source explain_faults.Device why e = cc
+written_no_source explain_faults.Memory why e = cc
 
-pub always_ok : {X E : Type 0} (r : Result X E) (P : Type 0) → P → OnOk r P
-always_ok (Ok x) P p = p
-always_ok (Err e) P p = tt
+pub written_unwritten : (fault : ExplainFault) (Same : Type 0) → (IsErrOf {T = Bool} (Err fault) explain_faults.Memory → Same) → (ask_fault_of fault ≡ faults.Device) ⊎ Same
+written_unwritten explain_faults.Device Same h = inl refl
+written_unwritten explain_faults.Memory Same h = inr (h refl)
 
-memory_no_device : faults.Memory ≡ faults.Device → ⊥
-memory_no_device e = cc
-
-pub memory_not_device : ¬ (IsErrOf {T = Bool} (Err faults.Memory) faults.Device)
-memory_not_device e = memory_no_device (same_fault _ _ e)
-
-pub device_not_memory : ¬ (IsErrOf {T = Bool} (Err faults.Device) faults.Memory)
-device_not_memory e = memory_no_device (sym (same_fault _ _ e))
-
--- ---- what an explanation says of the whole request
-
-pub explained_fault : (x : Explainable) (r : Recorded) (w : Written) (fault : ExplainFault) → IsExplained (Explains x r) w.old w.new (Err fault) → IsReply (requests.Explain x) r w (Err (ask_fault_of fault))
-explained_fault x r w explain_faults.Device h = h
-explained_fault x r w explain_faults.Memory h = tt
-
-pub explained_unwritten : (fault : ExplainFault) (Same : Type 0) → (IsErrOf {T = Bool} (Err fault) explain_faults.Memory → Same) → IsErrOf {T = Bool} (Err (ask_fault_of fault)) faults.Memory → Same
-explained_unwritten explain_faults.Device Same h e = absurd (device_not_memory e)
-explained_unwritten explain_faults.Memory Same h e = h refl
-
-pub explained_device : (fault : ExplainFault) (Same : Type 0) → (IsErrOf {T = Bool} (Err fault) explain_faults.Device → Same) → IsErrOf {T = Bool} (Err (ask_fault_of fault)) faults.Device → Same
-explained_device explain_faults.Device Same h e = h refl
-explained_device explain_faults.Memory Same h e = absurd (memory_not_device e)
+pub written_device : (fault : ExplainFault) (Same : Type 0) → (IsErrOf {T = Bool} (Err fault) explain_faults.Device → Same) → ask_fault_of fault ≡ faults.Device → Same
+written_device explain_faults.Device Same h e = h refl
+written_device explain_faults.Memory Same h e = absurd (memory_no_device e)
 
 -- the faults of the words
 pub refused_words : (words : List (List ℕ)) (input : Option (List ℕ)) (fault : AskFault) → IsRequestedAs words (Err fault) → IsRefusal words input fault
 refused_words words input faults.Question asked = asked
 refused_words words input (faults.Word i) asked = asked
-refused_words words input (faults.Condition i fault) asked = (asked, condition_read words i fault asked)
-refused_words words input (faults.Read fault) asked = absurd (of_no_source words fault asked)
-refused_words words input faults.Device asked = absurd (of_no_device words asked)
+refused_words words input (faults.Condition i fault) asked = (asked, fault_of_words words (faults.Condition i fault) asked)
+refused_words words input (faults.Read fault) asked = absurd (fault_of_words words (faults.Read fault) asked)
+refused_words words input faults.Device asked = absurd (fault_of_words words faults.Device asked)
 refused_words words input faults.Memory asked = tt
 
 -- the faults of reading
@@ -153,10 +120,10 @@ source_fault fault e = same_source fault (same_fault _ _ e)
 
 -- the faults of the words are of no device, and those of reading of no target
 pub no_device : (words : List (List ℕ)) (fault : AskFault) → IsRequestedAs words (Err fault) → ¬ (IsErrOf {T = Bool} (Err fault) faults.Device)
-no_device words fault asked e = of_no_device words (subst (λ (f : AskFault). IsRequestedAs words (Err f)) (same_fault fault faults.Device e) asked)
+no_device words fault asked e = subst IsFaultOfWords (same_fault fault faults.Device e) (fault_of_words words fault asked)
 
 pub no_source : (words : List (List ℕ)) (fault : AskFault) (source : ReadFault) → IsRequestedAs words (Err fault) → ¬ (IsErrOf {T = Bool} (Err fault) (faults.Read source))
-no_source words fault source asked e = of_no_source words source (subst (λ (f : AskFault). IsRequestedAs words (Err f)) (same_fault fault (faults.Read source) e) asked)
+no_source words fault source asked e = subst IsFaultOfWords (same_fault fault (faults.Read source) e) (fault_of_words words fault asked)
 
 pub no_target : (input : Option (List ℕ)) (fault : AskFault) → IsReadRefusal input fault → ¬ (IsErrOf {T = Bool} (Err fault) faults.Device)
 no_target input fault h e = subst (λ (f : AskFault). IsReadRefusal input f) (same_fault fault faults.Device e) h

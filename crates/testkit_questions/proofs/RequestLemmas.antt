@@ -1,117 +1,129 @@
--- The faults of words that ask for an answer or for its explanation.
-use Rattle.std.proofs.Common.{◌≡◌, ◌≢◌, ℕ, ◌+◌, ◌∷◌, [], List, map, Result, Ok, Err, refl, sym, ap, subst, inl, inr}
-use Rattle.tk_query_conditions.specs.declared.faults.CondFault.{CondFault}
+-- The faults of words: which there are, and of which there is none.
+use Rattle.std.proofs.Common.{◌≡◌, ◌≢◌, ℕ, ◌+◌, ◌∷◌, [], List, Vec, Global, map, Result, Ok, Err}
+use Rattle.std.proofs.Common.{refl, sym, ap, subst, inl, inr}
+use Rattle.tk_record.specs.Selections.{selection_name}
+use Rattle.tk_record.specs.declared.selections.Selection.{Selection}
+use Rattle.tk_record.specs.declared.selections.Selection.TheVariants.{All}
+use Rattle.tk_query_conditions.specs.declared.conditions.Condition.{Condition}
 use Rattle.tk_query_conditions.specs.declared.faults.CondFault.TheVariants as condition_faults
-use Rattle.tk_record_text.specs.declared.reading.ReadFault.{ReadFault}
 use Rattle.testkit_questions.specs.declared.faults.AskFault.{AskFault}
 use Rattle.testkit_questions.specs.declared.faults.AskFault.TheVariants as faults
-use Rattle.testkit_questions.specs.declared.questions.Explainable.{Explainable}
 use Rattle.testkit_questions.specs.declared.questions.Question.{Question}
-use Rattle.testkit_questions.specs.declared.requests.Request.{Request}
-use Rattle.testkit_questions.specs.Explainables.{asking}
-use Rattle.testkit_questions.specs.Questions.{IsAskedAs, match_word}
-use Rattle.testkit_questions.specs.Requests.{IsRequestedAs, answering, explain_word, explaining, explaining_later, one_later}
+use Rattle.testkit_questions.specs.declared.questions.Question.TheVariants as questions
+use Rattle.testkit_questions.specs.declared.questions.QuestionName.{QuestionName}
+use Rattle.testkit_questions.specs.declared.questions.QuestionName.TheVariants as names
+use Rattle.testkit_questions.specs.Questions.{Begins, IsAskedAs, IsConditionFault}
+use Rattle.testkit_questions.specs.Questions.{IsConditionsReading, IsEnd, IsExclusiveReading}
+use Rattle.testkit_questions.specs.Questions.{IsMatchReading, IsReadAfter, IsStatsReading, Reading}
+use Rattle.testkit_questions.specs.Questions.{mode_name, question_word}
+use Rattle.testkit_questions.specs.Requests.{IsExplainedAs, IsNamedToExplain, IsRequestedAs}
+use Rattle.testkit_questions.specs.Requests.{explain_word}
 
--- a fault of words that ask for something, as one of words that ask a question
-data FaultOf (fault : AskFault) : Type 0 where
-  as_asked : (words : List (List ℕ)) → IsAskedAs words (Err fault) → FaultOf fault
-  later : (words : List (List ℕ)) (g : AskFault) → IsAskedAs words (Err g) → fault ≡ one_later g → FaultOf fault
-  first : fault ≡ faults.Word 0 → FaultOf fault
+-- the faults that words have; a condition's is never that memory was refused
+abbrev pub IsFaultOfWords : AskFault → Type 0
+IsFaultOfWords faults.Question = Unit {0}
+IsFaultOfWords (faults.Word i) = Unit {0}
+IsFaultOfWords (faults.Condition i why) = why ≢ condition_faults.Memory
+IsFaultOfWords faults.Memory = Unit {0}
+IsFaultOfWords _ = ⊥
 
-ok_err : (request : Request) (fault : AskFault) → (let x : Result Request AskFault = Err fault in x) ≡ Ok request → ⊥
-ok_err request fault e = cc
+abbrev IsSound : Reading → Type 0
+IsSound (Ok question) = Unit {0}
+IsSound (Err fault) = IsFaultOfWords fault
 
-same_error : (f g : AskFault) → (let x : Result Request AskFault = Err f in x) ≡ Err g → f ≡ g
-same_error f g e = cc
+sound_as : (a x : Reading) → a ≡ x → IsSound x → IsSound a
+sound_as a x e h = subst IsSound (sym e) h
 
-from_answering : (words : List (List ℕ)) (fault : AskFault) (reading : Result Question AskFault) → IsAskedAs words reading → Err fault ≡ answering reading → FaultOf fault
-from_answering words fault (Ok q) h e = absurd (ok_err _ fault e)
-from_answering words fault (Err f) h e = as_asked words (subst (λ (g : AskFault). IsAskedAs words (Err g)) (sym (same_error fault f e)) h)
+begun : {A : Type 0} (name : A → List ℕ) (words : List (List ℕ)) (R : Type 0)
+    (P : A → List (List ℕ) → Type 0) (X : Type 0)
+    → ((a : A) (rest : List (List ℕ)) → P a rest → R) → (X → R) → Begins name words P X → R
+begun name words R P X one none (inl (a, rest, is, h)) = one a rest h
+begun name words R P X one none (inr (other, h)) = none h
 
-from_explaining : (words : List (List ℕ)) (fault : AskFault) (reading : Result Explainable AskFault) → IsAskedAs words (asking reading) → Err fault ≡ explaining reading → FaultOf fault
-from_explaining words fault (Ok x) h e = absurd (ok_err _ fault e)
-from_explaining words fault (Err f) h e = as_asked words (subst (λ (g : AskFault). IsAskedAs words (Err g)) (sym (same_error fault f e)) h)
+module _ (a : Reading) where
+  bad_word : (i : ℕ) → a ≡ Err (faults.Word i) → IsSound a
+  bad_word i e = sound_as a (Err (faults.Word i)) e tt
 
-from_later : (words : List (List ℕ)) (fault : AskFault) (reading : Result Explainable AskFault) → IsAskedAs words (asking reading) → Err fault ≡ explaining_later reading → FaultOf fault
-from_later words fault (Ok x) h e = absurd (ok_err _ fault e)
-from_later words fault (Err f) h e = later words f h (same_error fault (one_later f) e)
+  sound_end : (question : Question) (first : ℕ) (words : List (List ℕ))
+      → IsEnd question first words a → IsSound a
+  sound_end question first [] e = sound_as a (Ok question) e tt
+  sound_end question first (_ ∷ _) e = bad_word first e
 
-fault_of : (words : List (List ℕ)) (fault : AskFault) → IsRequestedAs words (Err fault) → FaultOf fault
-fault_of words fault (inl (rest, is, inl (mode, reading, h, e))) = from_explaining (match_word ∷ rest) fault reading h e
-fault_of words fault (inl (rest, is, inr (inl (name, reading, h, e)))) = from_later rest fault reading h e
-fault_of words fault (inl (rest, is, inr (inr (mode, name, e)))) = first (same_error fault (faults.Word 0) e)
-fault_of words fault (inr (other, reading, h, e)) = from_answering words fault reading h e
+  sound_stats : (s : Selection) (first : ℕ) (words : List (List ℕ))
+      → IsStatsReading s first words a → IsSound a
+  sound_stats s first words (inl (e, h, p)) = sound_as a (Ok (questions.Stats s e)) p tt
+  sound_stats s first words (inr (i, h, p)) = bad_word (first + i) p
 
-later_device : (g : AskFault) → faults.Device ≡ one_later g → g ≡ faults.Device
-later_device faults.Question e = cc
-later_device (faults.Word i) e = cc
-later_device (faults.Condition i f) e = cc
-later_device (faults.Read f) e = cc
-later_device faults.Device e = refl
-later_device faults.Memory e = cc
+  sound_fault : (first : ℕ) (texts : List (List ℕ)) (fault : AskFault)
+      → IsConditionFault first texts fault → a ≡ Err fault → IsSound a
+  sound_fault first texts fault (inl (at, why, bad, e)) p =
+      sound_as a (Err fault) p
+      (subst IsFaultOfWords (sym e) bad.read)
+  sound_fault first texts fault (inr e) p =
+      sound_as a (Err fault) p (subst IsFaultOfWords (sym e) tt)
 
-later_source : (source : ReadFault) (g : AskFault) → faults.Read source ≡ one_later g → g ≡ faults.Read source
-later_source source faults.Question e = cc
-later_source source (faults.Word i) e = cc
-later_source source (faults.Condition i f) e = cc
-later_source source (faults.Read f) e = sym e
-later_source source faults.Device e = cc
-later_source source faults.Memory e = cc
+  sound_conditions : (question : Vec Condition Global → Question) (first : ℕ)
+      (texts : List (List ℕ)) → IsConditionsReading question first texts a → IsSound a
+  sound_conditions question first texts (inl (cs, h, p)) = sound_as a (Ok (question cs)) p tt
+  sound_conditions question first texts (inr (fault, h, p)) = sound_fault first texts fault h p
 
-device_word : (let a : AskFault = faults.Device in a) ≡ faults.Word 0 → ⊥
-device_word e = cc
+  sound_match : (s : Selection) (first : ℕ) (words : List (List ℕ))
+      → IsMatchReading s first words a → IsSound a
+  sound_match s first words =
+      begun mode_name words (IsSound a) _ _
+      (λ m. sound_conditions (questions.Match s m) (first + 1)) (bad_word first)
 
-source_word : (source : ReadFault) → (let a : AskFault = faults.Read source in a) ≡ faults.Word 0 → ⊥
-source_word source e = cc
+  sound_exclusive : (first : ℕ) (texts : List (List ℕ)) → IsExclusiveReading first texts a
+      → IsSound a
+  sound_exclusive first texts (inl (w, r, h, p)) =
+      sound_as a (Ok (questions.Exclusive w r)) p tt
+  sound_exclusive first texts (inr (inl (i, h, p))) = bad_word (first + i) p
+  sound_exclusive first texts (inr (inr (few, fault, h, p))) = sound_fault first texts fault h p
 
-condition_word : (i : ℕ) (f : CondFault) → (let a : AskFault = faults.Condition i f in a) ≡ faults.Word 0 → ⊥
-condition_word i f e = cc
+  sound_after : (name : QuestionName) (first : ℕ) (words : List (List ℕ))
+      → IsReadAfter name first words a → IsSound a
+  sound_after names.Stats first words =
+      begun selection_name words (IsSound a) _ _
+      (λ s. sound_stats s (first + 1)) (sound_stats All first words)
+  sound_after names.Count first words =
+      begun selection_name words (IsSound a) _ _
+      (λ s. sound_end (questions.Count s) (first + 1)) (bad_word first)
+  sound_after names.Match first words =
+      begun selection_name words (IsSound a) _ _
+      (λ s. sound_match s (first + 1)) (sound_match All first words)
+  sound_after names.List first words =
+      begun selection_name words (IsSound a) _ _
+      (λ s. sound_conditions (questions.List s) (first + 1)) (bad_word first)
+  sound_after names.Exclusive first words = sound_exclusive first words
+  sound_after names.Executions first words =
+      begun selection_name words (IsSound a) _ _
+      (λ s. sound_end (questions.Executions s) (first + 1))
+      (sound_end (questions.Executions All) first words)
+  sound_after names.Lifecycle first words = sound_end questions.Lifecycle first words
+  sound_after names.Report first words = sound_end questions.Report first words
 
-no_device : FaultOf faults.Device → ⊥
-no_device (as_asked words h) = h
-no_device (later words g h e) = subst (λ (f : AskFault). IsAskedAs words (Err f)) (later_device g e) h
-no_device (first e) = device_word e
+  sound_asked : (words : List (List ℕ)) → IsAskedAs words a → IsSound a
+  sound_asked words =
+      begun question_word words (IsSound a) _ _ (λ name. sound_after name 0)
+      (λ p. sound_as a (Err faults.Question) p tt)
 
-pub of_no_device : (words : List (List ℕ)) → IsRequestedAs words (Err faults.Device) → ⊥
-of_no_device words h = no_device (fault_of words faults.Device h)
+  sound_named : (name : QuestionName) (words : List (List ℕ)) → IsNamedToExplain name words a
+      → IsSound a
+  sound_named names.Stats words = sound_after names.Stats 1 words
+  sound_named names.Count words = bad_word 0
+  sound_named names.Match words = bad_word 0
+  sound_named names.List words = sound_after names.List 1 words
+  sound_named names.Exclusive words = sound_after names.Exclusive 1 words
+  sound_named names.Executions words = sound_after names.Executions 1 words
+  sound_named names.Lifecycle words = sound_after names.Lifecycle 1 words
+  sound_named names.Report words = bad_word 0
 
-no_source : (source : ReadFault) → FaultOf (faults.Read source) → ⊥
-no_source source (as_asked words h) = h
-no_source source (later words g h e) = subst (λ (f : AskFault). IsAskedAs words (Err f)) (later_source source g e) h
-no_source source (first e) = source_word source e
+  sound_explained : (words : List (List ℕ)) → IsExplainedAs words a → IsSound a
+  sound_explained words =
+      begun question_word words (IsSound a) _ _ sound_named (sound_after names.Match 0 words)
 
-pub of_no_source : (words : List (List ℕ)) (source : ReadFault) → IsRequestedAs words (Err (faults.Read source)) → ⊥
-of_no_source words source h = no_source source (fault_of words (faults.Read source) h)
-
--- a condition's fault is never that memory was refused
-asked_read : (words : List (List ℕ)) (i : ℕ) (fault : CondFault) → IsAskedAs words (Err (faults.Condition i fault)) → fault ≢ condition_faults.Memory
-asked_read words i fault (inl of_match) = of_match.1.2.2.read
-asked_read words i fault (inr (inl of_list)) = of_list.1.2.2.read
-asked_read words i fault (inr (inr of_exclusive)) = of_exclusive.3.read
-
-same_condition : (i j : ℕ) (f g : CondFault) → (let a : AskFault = faults.Condition i f in a) ≡ faults.Condition j g → f ≡ g
-same_condition i j f g e = cc
-
-later_read : (words : List (List ℕ)) (i : ℕ) (fault : CondFault) (g : AskFault) → IsAskedAs words (Err g) → faults.Condition i fault ≡ one_later g → fault ≢ condition_faults.Memory
-later_read words i fault faults.Question h e = cc
-later_read words i fault (faults.Word j) h e = cc
-later_read words i fault (faults.Condition j f) h e = subst (λ (x : CondFault). x ≢ condition_faults.Memory) (sym (same_condition i (j + 1) fault f e)) (asked_read words j f h)
-later_read words i fault (faults.Read f) h e = cc
-later_read words i fault faults.Device h e = cc
-later_read words i fault faults.Memory h e = cc
-
-is_read : (i : ℕ) (fault : CondFault) → FaultOf (faults.Condition i fault) → fault ≢ condition_faults.Memory
-is_read i fault (as_asked words h) = asked_read words i fault h
-is_read i fault (later words g h e) = later_read words i fault g h e
-is_read i fault (first e) = absurd (condition_word i fault e)
-
-pub condition_read : (words : List (List ℕ)) (i : ℕ) (fault : CondFault) → IsRequestedAs words (Err (faults.Condition i fault)) → fault ≢ condition_faults.Memory
-condition_read words i fault h = is_read i fault (fault_of words (faults.Condition i fault) h)
-
-no_words : {X : Type 0} (x : X) (xs : List X) → [] ≡ x ∷ xs → ⊥
-no_words x xs e = cc
-
--- there are no words
-pub asks_nothing : {A : Type 0} (f : A → List ℕ) → (words : List A) → words ≡ [] → IsRequestedAs (map f words) (Err faults.Question)
-asks_nothing f words none =
-    subst (λ (l : List (List ℕ)). IsRequestedAs l (Err faults.Question)) (sym (ap (map f) none)) (inr ((λ rest e. no_words explain_word rest e), Err faults.Question, tt, refl))
+-- what words are refused for is a fault of words
+pub fault_of_words : (words : List (List ℕ)) (fault : AskFault) → IsRequestedAs words (Err fault)
+    → IsFaultOfWords fault
+fault_of_words words fault (inl (rest, is, flag, h)) = sound_explained (Err fault) rest h
+fault_of_words words fault (inr (other, flag, h)) = sound_asked (Err fault) words h

@@ -22,9 +22,15 @@ use Rattle.testkit_questions.specs.declared.questions.Mode.{Mode}
 use Rattle.testkit_questions.specs.declared.questions.Mode.TheVariants.{Exactly, Loosely, InOrder}
 use Rattle.testkit_questions.specs.declared.questions.Question.{Question}
 use Rattle.testkit_questions.specs.declared.questions.Question.TheVariants as questions
-use Rattle.testkit_questions.specs.Questions.{Expecting, IsNextExpected, IsExpectation, IsBadExpectation, expecting, AreConditions, IsBadCondition, IsBadWord, IsNoName, IsNoQuestion, IsAskedAs, AreHolders, mode_name, stats, count, match_word, list_word, exclusive_word, overview_name}
-use Rattle.testkit_questions.specs.declared.questions.Overview.{Overview}
-use Rattle.testkit_questions.specs.declared.questions.Overview.TheVariants as overviews
+use Rattle.testkit_questions.specs.declared.questions.QuestionName.{QuestionName}
+use Rattle.testkit_questions.specs.declared.questions.QuestionName.TheVariants as names
+use Rattle.testkit_questions.specs.Questions.{AreConditions, AreHolders, Begins, Expecting, IsAskedAs}
+use Rattle.testkit_questions.specs.Questions.{IsBadCondition, IsBadHolder, IsConditionFault}
+use Rattle.testkit_questions.specs.Questions.{IsConditionsReading, IsEnd, IsExclusiveReading}
+use Rattle.testkit_questions.specs.Questions.{IsExpectation, IsMatchReading, IsNextExpected, IsNoName}
+use Rattle.testkit_questions.specs.Questions.{IsReadAfter, IsStatsReading, Reading, expecting, mode_name}
+use Rattle.testkit_questions.specs.Questions.{question_word}
+use Rattle.testkit_questions.specs.Requests.{IsExplainedAs, IsNamedToExplain}
 use Rattle.testkit_questions.proofs.WordLemmas.{name_lacks}
 
 heads : {A : Type 0} (x y : A) (xs ys : List A) → x ∷ xs ≡ y ∷ ys → x ≡ y
@@ -32,9 +38,6 @@ heads x y xs ys e = cc
 
 tails : {A : Type 0} (x y : A) (xs ys : List A) → x ∷ xs ≡ y ∷ ys → xs ≡ ys
 tails x y xs ys e = cc
-
-no_tail : {A : Type 0} (x : A) (xs l : List A) → l ≡ [] → l ≡ x ∷ xs → ⊥
-no_tail x xs l e f = cc
 
 -- ---- a name has one selection, and one mode
 
@@ -80,16 +83,55 @@ called InOrder = refl
 one_mode : (m n : Mode) → mode_name m ≡ mode_name n → m ≡ n
 one_mode m n e = sym (called m) ∙ ap (λ (name : List ℕ). mode_of name) e ∙ called n
 
-abbrev overview_of : List ℕ → Overview
-overview_of name = if bytes_eq name (codes "executions") then overviews.Executions else (if bytes_eq name (codes "lifecycle") then overviews.Lifecycle else overviews.Report)
+abbrev question_of : List ℕ → QuestionName
+question_of name =
+    if bytes_eq name (codes "stats") then names.Stats else (
+    if bytes_eq name (codes "count") then names.Count else (
+    if bytes_eq name (codes "match") then names.Match else (
+    if bytes_eq name (codes "list") then names.List else (
+    if bytes_eq name (codes "exclusive") then names.Exclusive else (
+    if bytes_eq name (codes "executions") then names.Executions else (
+    if bytes_eq name (codes "lifecycle") then names.Lifecycle else names.Report))))))
 
-entitled : (o : Overview) → overview_of (overview_name o) ≡ o
-entitled overviews.Executions = refl
-entitled overviews.Lifecycle = refl
-entitled overviews.Report = refl
+entitled : (n : QuestionName) → question_of (question_word n) ≡ n
+entitled names.Stats = refl
+entitled names.Count = refl
+entitled names.Match = refl
+entitled names.List = refl
+entitled names.Exclusive = refl
+entitled names.Executions = refl
+entitled names.Lifecycle = refl
+entitled names.Report = refl
 
-one_overview : (o n : Overview) → overview_name o ≡ overview_name n → o ≡ n
-one_overview o n e = sym (entitled o) ∙ ap (λ (name : List ℕ). overview_of name) e ∙ entitled n
+pub one_question : (m n : QuestionName) → question_word m ≡ question_word n → m ≡ n
+one_question m n e =
+    sym (entitled m) ∙ ap (λ (name : List ℕ). question_of name) e ∙ entitled n
+
+-- ---- what words begin with
+
+no_name : {A : Type 0} (name : A → List ℕ) (words : List (List ℕ)) (a : A)
+    (rest : List (List ℕ)) → IsNoName name words → words ≡ name a ∷ rest → ⊥
+no_name name words a rest none is =
+    let h = subst (λ (t : List (List ℕ)). IsNoName name t) is none in h a refl
+
+-- words begin in one way
+pub one_beginning : {A : Type 0} (name : A → List ℕ) → ((a b : A) → name a ≡ name b → a ≡ b)
+    → (words : List (List ℕ)) (P Q : A → List (List ℕ) → Type 0) (X Y R : Type 0)
+    → ((a : A) (rest : List (List ℕ)) → P a rest → Q a rest → R) → (X → Y → R)
+    → Begins name words P X → Begins name words Q Y → R
+one_beginning {A = A} name one words P Q X Y R both neither
+    (inl (a, rest, is, h)) (inl (b, more, too, k)) =
+    let e = sym too ∙ is in
+    let same = one b a (heads (name b) (name a) more rest e) in
+    let tail = tails (name b) (name a) more rest e in
+    both a rest h (subst (λ (n : A). Q n rest) same
+    (subst (λ (l : List (List ℕ)). Q b l) tail k))
+one_beginning name one words P Q X Y R both neither (inl (a, rest, is, h)) (inr (none, k)) =
+    absurd (no_name name words a rest none is)
+one_beginning name one words P Q X Y R both neither (inr (none, h)) (inl (b, more, too, k)) =
+    absurd (no_name name words b more none too)
+one_beginning name one words P Q X Y R both neither (inr (none, h)) (inr (other, k)) =
+    neither h k
 
 -- ---- expectations
 
@@ -195,309 +237,248 @@ both_faulty (t ∷ texts) (suc i) (suc j) (c ∷ cs) (d ∷ ds) v w f g p q at t
     let rest = both_faulty texts i j cs ds v w f g p.1 q.1 at there bad worse x y in
     (ap suc rest.0, rest.1)
 
+good_not_faulty : (texts : List (List ℕ)) (cs : List Condition) (at : ℕ) (f : CondFault)
+    → AreConditions texts cs → IsBadCondition texts at f → ⊥
+good_not_faulty texts cs at f p bad =
+    let c = condition_at texts cs at bad.text p bad.at in
+    not_faulty bad.text c.0 f c.1 bad.bad bad.read
+
+good_no_fault : (first : ℕ) (texts : List (List ℕ)) (cs : List Condition) (fault : AskFault)
+    → fault ≢ faults.Memory → AreConditions texts cs → IsConditionFault first texts fault → ⊥
+good_no_fault first texts cs fault s h (inl (at, why, bad, e)) =
+    good_not_faulty texts cs at why h bad
+good_no_fault first texts cs fault s h (inr e) = s e
+
+condition_same : (i j : ℕ) (f g : CondFault) → i ≡ j → f ≡ g
+    → (let a : AskFault = faults.Condition i f in a) ≡ faults.Condition j g
+condition_same i j f g p q = rw (p, q) refl
+
+one_condition_fault : (first : ℕ) (texts : List (List ℕ)) (f g : AskFault)
+    → f ≢ faults.Memory → g ≢ faults.Memory
+    → IsConditionFault first texts f → IsConditionFault first texts g → f ≡ g
+one_condition_fault first texts f g s t (inl (i, v, bad, p)) (inl (j, w, worse, q)) =
+    let both = both_faulty texts i j bad.conditions worse.conditions bad.text worse.text v w
+        bad.before worse.before bad.at worse.at bad.bad worse.bad bad.read worse.read in
+    p ∙ condition_same (first + i) (first + j) v w (ap (λ (n : ℕ). first + n) both.0) both.1
+    ∙ sym q
+one_condition_fault first texts f g s t (inl bad) (inr e) = absurd (t e)
+one_condition_fault first texts f g s t (inr e) k = absurd (s e)
+
 -- ---- all words
 
--- questions that ask the same
-abbrev pub AreSame : Question → Question → Type 0
-AreSame (questions.Stats e) (questions.Stats f) = e ≡ f
-AreSame (questions.Count s) (questions.Count t) = s ≡ t
-AreSame (questions.Match m cs) (questions.Match n ds) = (m ≡ n) × AreAlike cs.items ds.items
-AreSame (questions.List s cs) (questions.List t ds) = (s ≡ t) × AreAlike cs.items ds.items
-AreSame (questions.Exclusive w r) (questions.Exclusive v s) = (cond_of w ≡ cond_of v) × (cond_of r ≡ cond_of s)
-AreSame (questions.Overview o) (questions.Overview n) = o ≡ n
-AreSame _ _ = ⊥
+pub alike_itself : (cs : List Condition) → AreAlike cs cs
+alike_itself [] = tt
+alike_itself (c ∷ cs) = (refl, alike_itself cs)
 
-abbrev pub SameReading : Result Question AskFault → Result Question AskFault → Type 0
+-- questions that ask the same: they are the same, or their conditions say the same
+pub data AreSame (p q : Question) : Type 0 where
+  equal : p ≡ q → AreSame p q
+  matching : (s : Selection) (m : Mode) (cs ds : Vec Condition Global)
+      → AreAlike cs.items ds.items
+      → p ≡ questions.Match s m cs → q ≡ questions.Match s m ds → AreSame p q
+  listing : (s : Selection) (cs ds : Vec Condition Global) → AreAlike cs.items ds.items
+      → p ≡ questions.List s cs → q ≡ questions.List s ds → AreSame p q
+  excluding : (w r v s : Condition) → cond_of w ≡ cond_of v → cond_of r ≡ cond_of s
+      → p ≡ questions.Exclusive w r → q ≡ questions.Exclusive v s → AreSame p q
+
+abbrev pub SameReading : Reading → Reading → Type 0
 SameReading (Ok p) (Ok q) = AreSame p q
 SameReading (Err f) (Err g) = f ≡ g
 SameReading _ _ = ⊥
 
 -- it depends on the words alone
-abbrev pub IsOfWords : Result Question AskFault → Type 0
-IsOfWords (Err faults.Memory) = ⊥
-IsOfWords _ = Unit {0}
+abbrev pub IsOfWords : {X : Type 0} → Result X AskFault → Type 0
+IsOfWords result = result ≢ Err faults.Memory
 
-alike : (a b x y : Result Question AskFault) → a ≡ x → b ≡ y → SameReading x y → SameReading a b
-alike a b x y p q same = subst (λ (c : Result Question AskFault). SameReading c b) (sym p) (subst (λ (c : Result Question AskFault). SameReading x c) (sym q) same)
+alike : (a b x y : Reading) → a ≡ x → b ≡ y → SameReading x y → SameReading a b
+alike a b x y p q same =
+    subst (λ (c : Reading). SameReading c b) (sym p)
+    (subst (λ (c : Reading). SameReading x c) (sym q) same)
 
-condition_fault_same : (i j : ℕ) (f g : CondFault) → i ≡ j → f ≡ g → (let a : AskFault = faults.Condition i f in a) ≡ faults.Condition j g
-condition_fault_same i j f g p q = rw (p, q) refl
+-- a fault of words isn't that memory was refused
+no_memory : (a : Reading) (f : AskFault) → IsOfWords a → a ≡ Err f → f ≢ faults.Memory
+no_memory a f s is e = s (is ∙ ap (λ (g : AskFault). Err g) e)
 
-data OfStats (rest : List (List ℕ)) (x : Result Question AskFault) : Type 0 where
-  stats_good : (e : Expected) → x ≡ Ok (questions.Stats e) → Expecting nothing_expected rest e → OfStats rest x
-  stats_bad : (i : ℕ) → x ≡ Err (faults.Word i) → IsBadExpectation rest i → OfStats rest x
+one_end : (question : Question) (first : ℕ) (words : List (List ℕ)) (a b : Reading)
+    → IsEnd question first words a → IsEnd question first words b → SameReading a b
+one_end question first [] a b p q = alike a b (Ok question) (Ok question) p q (equal refl)
+one_end question first (_ ∷ _) a b p q =
+    alike a b (Err (faults.Word first)) (Err (faults.Word first)) p q refl
 
-data OfCount (rest : List (List ℕ)) (x : Result Question AskFault) : Type 0 where
-  count_good : (s : Selection) → x ≡ Ok (questions.Count s) → rest ≡ selection_name s ∷ [] → OfCount rest x
-  count_none : x ≡ Err (faults.Word 0) → IsNoName selection_name rest → OfCount rest x
-  count_more : (s : Selection) (extra : List ℕ) (more : List (List ℕ)) → x ≡ Err (faults.Word 1) → rest ≡ selection_name s ∷ extra ∷ more → OfCount rest x
+one_stats : (s : Selection) (first : ℕ) (words : List (List ℕ)) (a b : Reading)
+    → IsStatsReading s first words a → IsStatsReading s first words b → SameReading a b
+one_stats s first words a b (inl (e, h, p)) (inl (f, k, q)) =
+    alike a b (Ok (questions.Stats s e)) (Ok (questions.Stats s f)) p q
+    (equal (ap (λ (x : Expected). questions.Stats s x)
+    (one_expected nothing_expected words e f h k)))
+one_stats s first words a b (inl (e, h, p)) (inr (i, k, q)) =
+    absurd (good_not_bad nothing_expected words e i k.expected k.word h k.before k.at k.bad)
+one_stats s first words a b (inr (i, h, p)) (inl (e, k, q)) =
+    absurd (good_not_bad nothing_expected words e i h.expected h.word k h.before h.at h.bad)
+one_stats s first words a b (inr (i, h, p)) (inr (j, k, q)) =
+    alike a b (Err (faults.Word (first + i))) (Err (faults.Word (first + j))) p q
+    (ap (λ (n : ℕ). faults.Word (first + n)) (both_bad nothing_expected words i j
+    h.expected k.expected h.word k.word h.before k.before h.at k.at h.bad k.bad))
 
--- a question of conditions, which stand after a name
-abbrev pub OfNamed : Type 0 → Type 0
-OfNamed A = A → Vec Condition Global → Question
+one_of_conditions : (question : Vec Condition Global → Question)
+    → ((cs ds : Vec Condition Global) → AreAlike cs.items ds.items
+    → AreSame (question cs) (question ds))
+    → (first : ℕ) (texts : List (List ℕ)) (a b : Reading) → IsOfWords a → IsOfWords b
+    → IsConditionsReading question first texts a → IsConditionsReading question first texts b
+    → SameReading a b
+one_of_conditions question same first texts a b s t (inl (cs, h, p)) (inl (ds, k, q)) =
+    alike a b (Ok (question cs)) (Ok (question ds)) p q
+    (same cs ds (one_conditions texts cs.items ds.items h k))
+one_of_conditions question same first texts a b s t (inl (cs, h, p)) (inr (g, k, q)) =
+    absurd (good_no_fault first texts cs.items g (no_memory b g t q) h k)
+one_of_conditions question same first texts a b s t (inr (f, h, p)) (inl (ds, k, q)) =
+    absurd (good_no_fault first texts ds.items f (no_memory a f s p) k h)
+one_of_conditions question same first texts a b s t (inr (f, h, p)) (inr (g, k, q)) =
+    alike a b (Err f) (Err g) p q
+    (one_condition_fault first texts f g (no_memory a f s p) (no_memory b g t q) h k)
 
-data OfConditions {A : Type 0} (name : A → List ℕ) (question : OfNamed A) (rest : List (List ℕ)) (x : Result Question AskFault) : Type 0 where
-  conditions_good : (a : A) (cs : Vec Condition Global) (texts : List (List ℕ)) → x ≡ Ok (question a cs) → rest ≡ name a ∷ texts → AreConditions texts cs.items → OfConditions name question rest x
-  conditions_none : x ≡ Err (faults.Word 0) → IsNoName name rest → OfConditions name question rest x
-  conditions_fault : (a : A) (texts : List (List ℕ)) (at i : ℕ) (f : CondFault) → x ≡ Err (faults.Condition i f) → rest ≡ name a ∷ texts → i ≡ at + 1 → IsBadCondition texts at f → OfConditions name question rest x
-
-data OfExclusive (rest : List (List ℕ)) (x : Result Question AskFault) : Type 0 where
-  exclusive_good : (w r : Condition) → x ≡ Ok (questions.Exclusive w r) → AreHolders rest w r → OfExclusive rest x
-  exclusive_none : x ≡ Err (faults.Word 0) → rest ≡ [] → OfExclusive rest x
-  exclusive_more : x ≡ Err (faults.Word 2) → 2 < length rest → OfExclusive rest x
-  exclusive_fault : (i : ℕ) (f : CondFault) → x ≡ Err (faults.Condition i f) → length rest ≤ 2 → IsBadCondition rest i f → OfExclusive rest x
-
-data OfOverview (o : Overview) (rest : List (List ℕ)) (x : Result Question AskFault) : Type 0 where
-  overview_good : x ≡ Ok (questions.Overview o) → rest ≡ [] → OfOverview o rest x
-  overview_more : (extra : List ℕ) (more : List (List ℕ)) → x ≡ Err (faults.Word 0) → rest ≡ extra ∷ more → OfOverview o rest x
-
-one_stats : (rest : List (List ℕ)) (a b : Result Question AskFault) → OfStats rest a → OfStats rest b → SameReading a b
-one_stats rest a b (stats_good e p h) (stats_good f q k) = alike a b (Ok (questions.Stats e)) (Ok (questions.Stats f)) p q (one_expected nothing_expected rest e f h k)
-one_stats rest a b (stats_good e p h) (stats_bad i q k) = absurd (good_not_bad nothing_expected rest e i k.expected k.word h k.before k.at k.bad)
-one_stats rest a b (stats_bad i p h) (stats_good e q k) = absurd (good_not_bad nothing_expected rest e i h.expected h.word k h.before h.at h.bad)
-one_stats rest a b (stats_bad i p h) (stats_bad j q k) = alike a b (Err (faults.Word i)) (Err (faults.Word j)) p q
-    (ap (λ (n : ℕ). faults.Word n) (both_bad nothing_expected rest i j h.expected k.expected h.word k.word h.before k.before h.at k.at h.bad k.bad))
-
-no_name : {A : Type 0} (name : A → List ℕ) (rest : List (List ℕ)) (a : A) (more : List (List ℕ)) → IsNoName name rest → rest ≡ name a ∷ more → ⊥
-no_name name rest a more none is = let h : IsNoName name (name a ∷ more) = subst (λ (t : List (List ℕ)). IsNoName name t) is none in h a refl
-
-no_more : (rest : List (List ℕ)) (s t : List ℕ) (extra : List ℕ) (more : List (List ℕ)) → rest ≡ s ∷ [] → rest ≡ t ∷ extra ∷ more → ⊥
-no_more rest s t extra more p q = no_tail extra more [] refl (tails s t [] (extra ∷ more) (sym p ∙ q))
-
-one_count : (rest : List (List ℕ)) (a b : Result Question AskFault) → OfCount rest a → OfCount rest b → SameReading a b
-one_count rest a b (count_good s p h) (count_good t q k) = alike a b (Ok (questions.Count s)) (Ok (questions.Count t)) p q (one_selection s t (heads (selection_name s) (selection_name t) [] [] (sym h ∙ k)))
-one_count rest a b (count_good s p h) (count_none q k) = absurd (no_name selection_name rest s [] k h)
-one_count rest a b (count_good s p h) (count_more t extra more q k) = absurd (no_more rest (selection_name s) (selection_name t) extra more h k)
-one_count rest a b (count_none p h) (count_good t q k) = absurd (no_name selection_name rest t [] h k)
-one_count rest a b (count_none p h) (count_none q k) = alike a b (Err (faults.Word 0)) (Err (faults.Word 0)) p q refl
-one_count rest a b (count_none p h) (count_more t extra more q k) = absurd (no_name selection_name rest t (extra ∷ more) h k)
-one_count rest a b (count_more s extra more p h) (count_good t q k) = absurd (no_more rest (selection_name t) (selection_name s) extra more k h)
-one_count rest a b (count_more s extra more p h) (count_none q k) = absurd (no_name selection_name rest s (extra ∷ more) k h)
-one_count rest a b (count_more s extra more p h) (count_more t extra2 more2 q k) = alike a b (Err (faults.Word 1)) (Err (faults.Word 1)) p q refl
-
-good_not_faulty : (texts more : List (List ℕ)) (cs : List Condition) (at : ℕ) (f : CondFault) → texts ≡ more → AreConditions texts cs → IsBadCondition more at f → ⊥
-good_not_faulty texts more cs at f same p bad =
-    let c = condition_at more cs at bad.text (subst (λ (t : List (List ℕ)). AreConditions t cs) same p) bad.at in
-    not_faulty bad.text c.0 f c.1 bad.bad bad.read
-
-one_bad : (texts more : List (List ℕ)) (i j at there : ℕ) (f g : CondFault) → texts ≡ more → i ≡ at + 1 → j ≡ there + 1 → IsBadCondition texts at f → IsBadCondition more there g → (let a : AskFault = faults.Condition i f in a) ≡ faults.Condition j g
-one_bad texts more i j at there f g same p q bad other =
-    let worse : IsBadCondition texts there g = subst (λ (t : List (List ℕ)). IsBadCondition t there g) (sym same) other in
-    let both = both_faulty texts at there bad.conditions worse.conditions bad.text worse.text f g bad.before worse.before bad.at worse.at bad.bad worse.bad bad.read worse.read in
-    condition_fault_same i j f g (p ∙ ap (λ (n : ℕ). n + 1) both.0 ∙ sym q) both.1
-
-texts_same : {A : Type 0} (name : A → List ℕ) (rest : List (List ℕ)) (a b : A) (texts more : List (List ℕ)) → rest ≡ name a ∷ texts → rest ≡ name b ∷ more → texts ≡ more
-texts_same name rest a b texts more p q = tails (name a) (name b) texts more (sym p ∙ q)
-
--- one name for each question, and the same question of conditions that say the same
-record AreOne {A : Type 0} (name : A → List ℕ) (question : OfNamed A) : Type 0 where
-  names : (a b : A) → name a ≡ name b → a ≡ b
-  questions : (a b : A) (cs ds : Vec Condition Global) → a ≡ b → AreAlike cs.items ds.items → AreSame (question a cs) (question b ds)
-
-one_of_conditions : {A : Type 0} (name : A → List ℕ) (question : OfNamed A) → AreOne name question → (rest : List (List ℕ)) (x y : Result Question AskFault)
-    → OfConditions name question rest x → OfConditions name question rest y → SameReading x y
-one_of_conditions name question one rest x y (conditions_good a cs texts p h c) (conditions_good b ds more s k d) =
-    alike x y (Ok (question a cs)) (Ok (question b ds)) p s (one.questions a b cs ds (one.names a b (heads (name a) (name b) texts more (sym h ∙ k)))
-    (one_conditions texts cs.items ds.items c (subst (λ (t : List (List ℕ)). AreConditions t ds.items) (sym (texts_same name rest a b texts more h k)) d)))
-one_of_conditions name question one rest x y (conditions_good a cs texts p h c) (conditions_none s k) = absurd (no_name name rest a texts k h)
-one_of_conditions name question one rest x y (conditions_good a cs texts p h c) (conditions_fault b more at i f s k e d) =
-    absurd (good_not_faulty texts more cs.items at f (texts_same name rest a b texts more h k) c d)
-one_of_conditions name question one rest x y (conditions_none p h) (conditions_good b ds more s k d) = absurd (no_name name rest b more h k)
-one_of_conditions name question one rest x y (conditions_none p h) (conditions_none s k) = alike x y (Err (faults.Word 0)) (Err (faults.Word 0)) p s refl
-one_of_conditions name question one rest x y (conditions_none p h) (conditions_fault b more at i f s k e d) = absurd (no_name name rest b more h k)
-one_of_conditions name question one rest x y (conditions_fault a texts at i f p h e c) (conditions_good b ds more s k d) =
-    absurd (good_not_faulty more texts ds.items at f (texts_same name rest b a more texts k h) d c)
-one_of_conditions name question one rest x y (conditions_fault a texts at i f p h e c) (conditions_none s k) = absurd (no_name name rest a texts k h)
-one_of_conditions name question one rest x y (conditions_fault a texts at i f p h e c) (conditions_fault b more there j g s k u d) =
-    alike x y (Err (faults.Condition i f)) (Err (faults.Condition j g)) p s (one_bad texts more i j at there f g (texts_same name rest a b texts more h k) e u c d)
-
-one_matching : AreOne mode_name (λ m cs. questions.Match m cs)
-one_matching = record { names = one_mode; questions = λ m n cs ds same like. (same, like) }
-
-one_listing : AreOne selection_name (λ s cs. questions.List s cs)
-one_listing = record { names = one_selection; questions = λ s t cs ds same like. (same, like) }
+one_match : (s : Selection) (first : ℕ) (words : List (List ℕ)) (a b : Reading)
+    → IsOfWords a → IsOfWords b
+    → IsMatchReading s first words a → IsMatchReading s first words b → SameReading a b
+one_match s first words a b u t h k =
+    one_beginning mode_name one_mode words _ _ _ _ (SameReading a b)
+    (λ m texts. one_of_conditions (questions.Match s m)
+    (λ cs ds like. matching s m cs ds like refl refl) (first + 1) texts a b u t)
+    (λ p q. alike a b (Err (faults.Word first)) (Err (faults.Word first)) p q refl)
+    h k
 
 -- ---- the conditions of writers and of readers
 
-holders_same : (rest : List (List ℕ)) (w r v s : Condition) → AreHolders rest w r → AreHolders rest v s → (cond_of w ≡ cond_of v) × (cond_of r ≡ cond_of s)
-holders_same rest w r v s (inl h) (inl k) = let like = one_conditions rest (w ∷ r ∷ []) (v ∷ s ∷ []) h k in (like.0, like.1.0)
-holders_same rest w r v s (inl h) (inr k) = let like = one_conditions rest (w ∷ r ∷ []) (v ∷ []) h k.0 in absurd like.1
-holders_same rest w r v s (inr h) (inl k) = let like = one_conditions rest (w ∷ []) (v ∷ s ∷ []) h.0 k in absurd like.1
-holders_same rest w r v s (inr h) (inr k) = let like = one_conditions rest (w ∷ []) (v ∷ []) h.0 k.0 in (like.0, h.1 ∙ sym k.1)
-
-as_many_texts : (texts : List (List ℕ)) (cs : List Condition) → AreConditions texts cs → length texts ≡ length cs
+pub as_many_texts : (texts : List (List ℕ)) (cs : List Condition) → AreConditions texts cs
+    → length texts ≡ length cs
 as_many_texts [] [] h = refl
 as_many_texts [] (c ∷ cs) h = absurd h
 as_many_texts (t ∷ texts) [] h = absurd h
 as_many_texts (t ∷ texts) (c ∷ cs) h = ap suc (as_many_texts texts cs h.1)
 
-few_holders : (rest : List (List ℕ)) (w r : Condition) → AreHolders rest w r → (0 < length rest) × (length rest ≤ 2)
-few_holders rest w r (inl h) = let many = as_many_texts rest (w ∷ r ∷ []) h in (omega arith, omega arith)
-few_holders rest w r (inr h) = let many = as_many_texts rest (w ∷ []) h.0 in (omega arith, omega arith)
+holders_same : (rest : List (List ℕ)) (w r v s : Condition) → AreHolders rest w r
+    → AreHolders rest v s → (cond_of w ≡ cond_of v) × (cond_of r ≡ cond_of s)
+holders_same rest w r v s (inl h) (inl k) =
+    let like = one_conditions rest (w ∷ r ∷ []) (v ∷ s ∷ []) h k in (like.0, like.1.0)
+holders_same rest w r v s (inl h) (inr k) =
+    let like = one_conditions rest (w ∷ r ∷ []) (v ∷ []) h k.0 in absurd like.1
+holders_same rest w r v s (inr h) (inl k) =
+    let like = one_conditions rest (w ∷ []) (v ∷ s ∷ []) h.0 k in absurd like.1
+holders_same rest w r v s (inr h) (inr k) =
+    let like = one_conditions rest (w ∷ []) (v ∷ []) h.0 k.0 in (like.0, h.1 ∙ sym k.1)
 
-good_holders : (rest : List (List ℕ)) (w r : Condition) (i : ℕ) (f : CondFault) → AreHolders rest w r → IsBadCondition rest i f → ⊥
-good_holders rest w r i f (inl h) bad = good_not_faulty rest rest (w ∷ r ∷ []) i f refl h bad
-good_holders rest w r i f (inr h) bad = good_not_faulty rest rest (w ∷ []) i f refl h.0 bad
+few_holders : (rest : List (List ℕ)) (w r : Condition) → AreHolders rest w r
+    → (0 < length rest) × (length rest ≤ 2)
+few_holders rest w r (inl h) =
+    let many = as_many_texts rest (w ∷ r ∷ []) h in (omega arith, omega arith)
+few_holders rest w r (inr h) =
+    let many = as_many_texts rest (w ∷ []) h.0 in (omega arith, omega arith)
 
-no_texts : (rest : List (List ℕ)) → rest ≡ [] → 0 < length rest → ⊥
-no_texts rest none some = let long = ap length none in omega arith
+holders_no_fault : (first : ℕ) (rest : List (List ℕ)) (w r : Condition) (f : AskFault)
+    → f ≢ faults.Memory → AreHolders rest w r → IsConditionFault first rest f → ⊥
+holders_no_fault first rest w r f s (inl h) bad =
+    good_no_fault first rest (w ∷ r ∷ []) f s h bad
+holders_no_fault first rest w r f s (inr h) bad =
+    good_no_fault first rest (w ∷ []) f s h.0 bad
 
-no_text : (rest : List (List ℕ)) (i : ℕ) (f : CondFault) → rest ≡ [] → IsBadCondition rest i f → ⊥
-no_text rest i f none bad = none-some bad.text (ap (λ (t : List (List ℕ)). slice_get t i) (sym none) ∙ bad.at)
+good_number : (rest : List (List ℕ)) (i : ℕ) → IsBadHolder rest i
+    → 0 < length rest → length rest ≤ 2 → ⊥
+good_number rest i (inl h) some few = let long = ap length h.0 in omega arith
+good_number rest i (inr h) some few = let long = h.0 in omega arith
 
-one_exclusive : (rest : List (List ℕ)) (a b : Result Question AskFault) → OfExclusive rest a → OfExclusive rest b → SameReading a b
-one_exclusive rest a b (exclusive_good w r p h) (exclusive_good v s q k) = alike a b (Ok (questions.Exclusive w r)) (Ok (questions.Exclusive v s)) p q (holders_same rest w r v s h k)
-one_exclusive rest a b (exclusive_good w r p h) (exclusive_none q k) = absurd (no_texts rest k (few_holders rest w r h).0)
-one_exclusive rest a b (exclusive_good w r p h) (exclusive_more q many) = let few = (few_holders rest w r h).1 in absurd (omega arith)
-one_exclusive rest a b (exclusive_good w r p h) (exclusive_fault j g q lt bad) = absurd (good_holders rest w r j g h bad)
-one_exclusive rest a b (exclusive_none p h) (exclusive_good v s q k) = absurd (no_texts rest h (few_holders rest v s k).0)
-one_exclusive rest a b (exclusive_none p h) (exclusive_none q k) = alike a b (Err (faults.Word 0)) (Err (faults.Word 0)) p q refl
-one_exclusive rest a b (exclusive_none p h) (exclusive_more q many) = absurd (no_texts rest h (omega arith))
-one_exclusive rest a b (exclusive_none p h) (exclusive_fault j g q lt bad) = absurd (no_text rest j g h bad)
-one_exclusive rest a b (exclusive_more p many) (exclusive_good v s q k) = let few = (few_holders rest v s k).1 in absurd (omega arith)
-one_exclusive rest a b (exclusive_more p many) (exclusive_none q k) = absurd (no_texts rest k (omega arith))
-one_exclusive rest a b (exclusive_more p many) (exclusive_more q more) = alike a b (Err (faults.Word 2)) (Err (faults.Word 2)) p q refl
-one_exclusive rest a b (exclusive_more p many) (exclusive_fault j g q few bad) = absurd (omega arith)
-one_exclusive rest a b (exclusive_fault i f p lt bad) (exclusive_good v s q k) = absurd (good_holders rest v s i f k bad)
-one_exclusive rest a b (exclusive_fault i f p lt bad) (exclusive_none q k) = absurd (no_text rest i f k bad)
-one_exclusive rest a b (exclusive_fault i f p few bad) (exclusive_more q many) = absurd (omega arith)
-one_exclusive rest a b (exclusive_fault i f p lt bad) (exclusive_fault j g q less worse) =
-    let both = both_faulty rest i j bad.conditions worse.conditions bad.text worse.text f g bad.before worse.before bad.at worse.at bad.bad worse.bad bad.read worse.read in
-    alike a b (Err (faults.Condition i f)) (Err (faults.Condition j g)) p q (condition_fault_same i j f g both.0 both.1)
+one_number : (rest : List (List ℕ)) (i j : ℕ) → IsBadHolder rest i → IsBadHolder rest j → i ≡ j
+one_number rest i j (inl h) (inl k) = h.1 ∙ sym k.1
+one_number rest i j (inl h) (inr k) =
+    let none = ap length h.0 in let long = k.0 in absurd (omega arith)
+one_number rest i j (inr h) (inl k) =
+    let none = ap length k.0 in let long = h.0 in absurd (omega arith)
+one_number rest i j (inr h) (inr k) = h.1 ∙ sym k.1
 
-one_of_overview : (o : Overview) (rest : List (List ℕ)) (a b : Result Question AskFault) → OfOverview o rest a → OfOverview o rest b → SameReading a b
-one_of_overview o rest a b (overview_good p h) (overview_good q k) = alike a b (Ok (questions.Overview o)) (Ok (questions.Overview o)) p q refl
-one_of_overview o rest a b (overview_good p h) (overview_more extra more q k) = absurd (no_tail extra more rest h k)
-one_of_overview o rest a b (overview_more extra more p h) (overview_good q k) = absurd (no_tail extra more rest k h)
-one_of_overview o rest a b (overview_more extra more p h) (overview_more extra2 more2 q k) = alike a b (Err (faults.Word 0)) (Err (faults.Word 0)) p q refl
+-- without a text no text is bad
+some_text : (first : ℕ) (rest : List (List ℕ)) (f : AskFault) → f ≢ faults.Memory
+    → IsConditionFault first rest f → 0 < length rest
+some_text first [] f s (inl (at, why, bad, e)) = absurd (none-some bad.text bad.at)
+some_text first (t ∷ rest) f s (inl bad) = omega arith
+some_text first rest f s (inr e) = absurd (s e)
 
--- what the words begin with
-data Reading (words : List (List ℕ)) (x : Result Question AskFault) : Type 0 where
-  of_stats : (rest : List (List ℕ)) → words ≡ stats ∷ rest → OfStats rest x → Reading words x
-  of_count : (rest : List (List ℕ)) → words ≡ count ∷ rest → OfCount rest x → Reading words x
-  of_match : (rest : List (List ℕ)) → words ≡ match_word ∷ rest → OfConditions mode_name (λ m cs. questions.Match m cs) rest x → Reading words x
-  of_list : (rest : List (List ℕ)) → words ≡ list_word ∷ rest → OfConditions selection_name (λ s cs. questions.List s cs) rest x → Reading words x
-  of_exclusive : (rest : List (List ℕ)) → words ≡ exclusive_word ∷ rest → OfExclusive rest x → Reading words x
-  of_overview : (o : Overview) (rest : List (List ℕ)) → words ≡ overview_name o ∷ rest → OfOverview o rest x → Reading words x
-  of_none : x ≡ Err faults.Question → IsNoQuestion words → Reading words x
+one_exclusive : (first : ℕ) (rest : List (List ℕ)) (a b : Reading) → IsOfWords a → IsOfWords b
+    → IsExclusiveReading first rest a → IsExclusiveReading first rest b → SameReading a b
+one_exclusive first rest a b s t (inl (w, r, h, p)) (inl (v, x, k, q)) =
+    let same = holders_same rest w r v x h k in
+    alike a b (Ok (questions.Exclusive w r)) (Ok (questions.Exclusive v x)) p q
+    (excluding w r v x same.0 same.1 refl refl)
+one_exclusive first rest a b s t (inl (w, r, h, p)) (inr (inl (j, k, q))) =
+    let few = few_holders rest w r h in absurd (good_number rest j k few.0 few.1)
+one_exclusive first rest a b s t (inl (w, r, h, p)) (inr (inr (few, g, k, q))) =
+    absurd (holders_no_fault first rest w r g (no_memory b g t q) h k)
+one_exclusive first rest a b s t (inr (inl (i, h, p))) (inl (v, x, k, q)) =
+    let few = few_holders rest v x k in absurd (good_number rest i h few.0 few.1)
+one_exclusive first rest a b s t (inr (inl (i, h, p))) (inr (inl (j, k, q))) =
+    alike a b (Err (faults.Word (first + i))) (Err (faults.Word (first + j))) p q
+    (ap (λ (n : ℕ). faults.Word (first + n)) (one_number rest i j h k))
+one_exclusive first rest a b s t (inr (inl (i, h, p))) (inr (inr (few, g, k, q))) =
+    absurd (good_number rest i h (some_text first rest g (no_memory b g t q) k) few)
+one_exclusive first rest a b s t (inr (inr (few, f, h, p))) (inl (v, x, k, q)) =
+    absurd (holders_no_fault first rest v x f (no_memory a f s p) k h)
+one_exclusive first rest a b s t (inr (inr (few, f, h, p))) (inr (inl (j, k, q))) =
+    absurd (good_number rest j k (some_text first rest f (no_memory a f s p) h) few)
+one_exclusive first rest a b s t (inr (inr (few, f, h, p))) (inr (inr (less, g, k, q))) =
+    alike a b (Err f) (Err g) p q
+    (one_condition_fault first rest f g (no_memory a f s p) (no_memory b g t q) h k)
 
-word_error : (i j : ℕ) → i ≡ j → (let x : Result Question AskFault = Err (faults.Word i) in x) ≡ Err (faults.Word j)
-word_error i j e = rw e refl
+-- ---- questions
 
-word_reading : (words : List (List ℕ)) (i : ℕ) → IsBadWord words i → Reading words (Err (faults.Word i))
-word_reading words i (inl h) = of_stats h.0 h.1 (stats_bad i refl h.2)
-word_reading words i (inr (inl h)) = of_count h.0 h.1 (count_none (word_error i 0 h.2) h.3)
-word_reading words i (inr (inr (inl h))) = of_count (selection_name h.0 ∷ h.1 ∷ h.2) h.3 (count_more h.0 h.1 h.2 (word_error i 1 h.4) refl)
-word_reading words i (inr (inr (inr (inl h)))) = of_match h.0 h.1 (conditions_none (word_error i 0 h.2) h.3)
-word_reading words i (inr (inr (inr (inr (inl h))))) = of_list h.0 h.1 (conditions_none (word_error i 0 h.2) h.3)
-word_reading words i (inr (inr (inr (inr (inr (inr (rest, is, inl h))))))) = of_exclusive rest is (exclusive_none (word_error i 0 h.1) h.0)
-word_reading words i (inr (inr (inr (inr (inr (inr (rest, is, inr h))))))) = of_exclusive rest is (exclusive_more (word_error i 2 h.1) h.0)
-word_reading words i (inr (inr (inr (inr (inr (inl h)))))) = of_overview h.0 (h.1 ∷ h.2) h.3 (overview_more h.1 h.2 (word_error i 0 h.4) refl)
+module _ (a b : Reading) (s : IsOfWords a) (t : IsOfWords b) where
+  bad_first : (first : ℕ) → a ≡ Err (faults.Word first) → b ≡ Err (faults.Word first)
+      → SameReading a b
+  bad_first first p q =
+      alike a b (Err (faults.Word first)) (Err (faults.Word first)) p q refl
 
-condition_reading : (words : List (List ℕ)) (i : ℕ) (f : CondFault) → IsAskedAs words (Err (faults.Condition i f)) → Reading words (Err (faults.Condition i f))
-condition_reading words i f (inl p) = of_match (mode_name p.0 ∷ p.1.0) p.1.1 (conditions_fault p.0 p.1.0 p.1.2.0 i f refl refl p.1.2.1 p.1.2.2)
-condition_reading words i f (inr (inr p)) = of_exclusive p.0 p.1 (exclusive_fault i f refl p.2 p.3)
-condition_reading words i f (inr (inl p)) = of_list (selection_name p.0 ∷ p.1.0) p.1.1 (conditions_fault p.0 p.1.0 p.1.2.0 i f refl refl p.1.2.1 p.1.2.2)
+  pub one_after : (name : QuestionName) (first : ℕ) (words : List (List ℕ))
+      → IsReadAfter name first words a → IsReadAfter name first words b → SameReading a b
+  one_after names.Stats first words h k =
+      one_beginning selection_name one_selection words _ _ _ _ (SameReading a b)
+      (λ c rest. one_stats c (first + 1) rest a b) (one_stats All first words a b) h k
+  one_after names.Count first words h k =
+      one_beginning selection_name one_selection words _ _ _ _ (SameReading a b)
+      (λ c rest. one_end (questions.Count c) (first + 1) rest a b) (bad_first first) h k
+  one_after names.Match first words h k =
+      one_beginning selection_name one_selection words _ _ _ _ (SameReading a b)
+      (λ c rest. one_match c (first + 1) rest a b s t) (one_match All first words a b s t) h k
+  one_after names.List first words h k =
+      one_beginning selection_name one_selection words _ _ _ _ (SameReading a b)
+      (λ c texts. one_of_conditions (questions.List c)
+      (λ cs ds like. listing c cs ds like refl refl) (first + 1) texts a b s t)
+      (bad_first first) h k
+  one_after names.Exclusive first words h k = one_exclusive first words a b s t h k
+  one_after names.Executions first words h k =
+      one_beginning selection_name one_selection words _ _ _ _ (SameReading a b)
+      (λ c rest. one_end (questions.Executions c) (first + 1) rest a b)
+      (one_end (questions.Executions All) first words a b) h k
+  one_after names.Lifecycle first words h k = one_end questions.Lifecycle first words a b h k
+  one_after names.Report first words h k = one_end questions.Report first words a b h k
 
-reading : (words : List (List ℕ)) (x : Result Question AskFault) → IsOfWords x → IsAskedAs words x → Reading words x
-reading words (Ok (questions.Stats e)) s p = of_stats p.0 p.1 (stats_good e refl p.2)
-reading words (Ok (questions.Count c)) s p = of_count (selection_name c ∷ []) p (count_good c refl refl)
-reading words (Ok (questions.Match m cs)) s p = of_match (mode_name m ∷ p.0) p.1 (conditions_good m cs p.0 refl refl p.2)
-reading words (Ok (questions.List c cs)) s p = of_list (selection_name c ∷ p.0) p.1 (conditions_good c cs p.0 refl refl p.2)
-reading words (Ok (questions.Exclusive w r)) s p = of_exclusive p.0 p.1 (exclusive_good w r refl p.2)
-reading words (Ok (questions.Overview o)) s p = of_overview o [] p (overview_good refl refl)
-reading words (Err faults.Question) s p = of_none refl p
-reading words (Err (faults.Word i)) s p = word_reading words i p
-reading words (Err (faults.Condition i f)) s p = condition_reading words i f p
-reading words (Err (faults.Read f)) s p = absurd p
-reading words (Err faults.Device) s p = absurd p
-reading words (Err faults.Memory) s p = absurd s
+  -- the same words never ask two questions
+  pub one_reading : (words : List (List ℕ)) → IsAskedAs words a → IsAskedAs words b
+      → SameReading a b
+  one_reading words h k =
+      one_beginning question_word one_question words _ _ _ _ (SameReading a b)
+      (λ name rest. one_after name 0 rest)
+      (λ p q. alike a b (Err faults.Question) (Err faults.Question) p q refl) h k
 
-rest_same : (words : List (List ℕ)) (a : List ℕ) (r s : List (List ℕ)) → words ≡ a ∷ r → words ≡ a ∷ s → s ≡ r
-rest_same words a r s p q = tails a a s r (sym q ∙ p)
+  one_named : (name : QuestionName) (words : List (List ℕ))
+      → IsNamedToExplain name words a → IsNamedToExplain name words b → SameReading a b
+  one_named names.Stats words h k = one_after names.Stats 1 words h k
+  one_named names.Count words h k = bad_first 0 h k
+  one_named names.Match words h k = bad_first 0 h k
+  one_named names.List words h k = one_after names.List 1 words h k
+  one_named names.Exclusive words h k = one_after names.Exclusive 1 words h k
+  one_named names.Executions words h k = one_after names.Executions 1 words h k
+  one_named names.Lifecycle words h k = one_after names.Lifecycle 1 words h k
+  one_named names.Report words h k = bad_first 0 h k
 
--- two words with another letter at this place
-clash_at : (k : ℕ) (words : List (List ℕ)) (a b : List ℕ) (r s : List (List ℕ)) → words ≡ a ∷ r → words ≡ b ∷ s → (get_or a k 0 ≡ get_or b k 0 → ⊥) → ⊥
-clash_at k words a b r s p q apart = apart (ap (λ (t : List ℕ). get_or t k 0) (heads a b r s (sym p ∙ q)))
-
-clash : (words : List (List ℕ)) (a b : List ℕ) (r s : List (List ℕ)) → words ≡ a ∷ r → words ≡ b ∷ s → (get_or a 0 0 ≡ get_or b 0 0 → ⊥) → ⊥
-clash = clash_at 0
-
-none_here : (words : List (List ℕ)) (a : List ℕ) (r : List (List ℕ)) → IsNoQuestion words → words ≡ a ∷ r → IsNoQuestion (a ∷ r)
-none_here words a r none is = subst (λ (t : List (List ℕ)). IsNoQuestion t) is none
-
--- no overview's name has another letter at this place than three
-letter_apart : (o : Overview) (k c : ℕ) → get_or (codes "executions") k 0 ≢ c → get_or (codes "lifecycle") k 0 ≢ c → get_or (codes "report") k 0 ≢ c → get_or (overview_name o) k 0 ≡ c → ⊥
-letter_apart overviews.Executions k c e l r is = e is
-letter_apart overviews.Lifecycle k c e l r is = l is
-letter_apart overviews.Report k c e l r is = r is
-
-first_apart : (o : Overview) (c : ℕ) → 101 ≢ c → 108 ≢ c → 114 ≢ c → get_or (overview_name o) 0 0 ≡ c → ⊥
-first_apart o c e l r is = letter_apart o 0 c e l r is
-
--- its third letter is not that of `list`
-third_apart : (o : Overview) → get_or (overview_name o) 2 0 ≡ 115 → ⊥
-third_apart o is = letter_apart o 2 115 (λ (e : 101 ≡ 115). omega arith) (λ (e : 102 ≡ 115). omega arith) (λ (e : 112 ≡ 115). omega arith) is
-
--- its third letter is not that of `exclusive`
-third_apart_too : (o : Overview) → get_or (overview_name o) 2 0 ≡ 99 → ⊥
-third_apart_too o is = letter_apart o 2 99 (λ (e : 101 ≡ 99). omega arith) (λ (e : 102 ≡ 99). omega arith) (λ (e : 112 ≡ 99). omega arith) is
-
-one_of : (words : List (List ℕ)) (a b : Result Question AskFault) → Reading words a → Reading words b → SameReading a b
-one_of words a b (of_stats r p h) (of_stats s q k) = one_stats r a b h (subst (λ (t : List (List ℕ)). OfStats t b) (rest_same words stats r s p q) k)
-one_of words a b (of_count r p h) (of_count s q k) = one_count r a b h (subst (λ (t : List (List ℕ)). OfCount t b) (rest_same words count r s p q) k)
-one_of words a b (of_match r p h) (of_match s q k) =
-    one_of_conditions mode_name (λ m cs. questions.Match m cs) one_matching r a b h (subst (λ (t : List (List ℕ)). OfConditions mode_name (λ m cs. questions.Match m cs) t b) (rest_same words match_word r s p q) k)
-one_of words a b (of_list r p h) (of_list s q k) =
-    one_of_conditions selection_name (λ t cs. questions.List t cs) one_listing r a b h (subst (λ (t : List (List ℕ)). OfConditions selection_name (λ v cs. questions.List v cs) t b) (rest_same words list_word r s p q) k)
-one_of words a b (of_overview o r p h) (of_overview n s q k) =
-    let same = one_overview n o (heads (overview_name n) (overview_name o) s r (sym q ∙ p)) in
-    one_of_overview o r a b h (subst (λ (t : List (List ℕ)). OfOverview o t b) (tails (overview_name n) (overview_name o) s r (sym q ∙ p)) (subst (λ (v : Overview). OfOverview v s b) same k))
-one_of words a b (of_none p h) (of_none q k) = alike a b (Err faults.Question) (Err faults.Question) p q refl
-one_of words a b (of_stats r p h) (of_count s q k) = absurd (clash words stats count r s p q (λ (e : 115 ≡ 99). omega arith))
-one_of words a b (of_stats r p h) (of_match s q k) = absurd (clash words stats match_word r s p q (λ (e : 115 ≡ 109). omega arith))
-one_of words a b (of_stats r p h) (of_overview o s q k) = absurd (clash words stats (overview_name o) r s p q (λ (e : 115 ≡ get_or (overview_name o) 0 0). first_apart o 115 (omega arith) (omega arith) (omega arith) (sym e)))
-one_of words a b (of_stats r p h) (of_none q k) = let n = none_here words stats r k p in absurd (n.0 refl)
-one_of words a b (of_none p h) (of_stats s q k) = let n = none_here words stats s h q in absurd (n.0 refl)
-one_of words a b (of_count r p h) (of_stats s q k) = absurd (clash words count stats r s p q (λ (e : 99 ≡ 115). omega arith))
-one_of words a b (of_count r p h) (of_match s q k) = absurd (clash words count match_word r s p q (λ (e : 99 ≡ 109). omega arith))
-one_of words a b (of_count r p h) (of_overview o s q k) = absurd (clash words count (overview_name o) r s p q (λ (e : 99 ≡ get_or (overview_name o) 0 0). first_apart o 99 (omega arith) (omega arith) (omega arith) (sym e)))
-one_of words a b (of_count r p h) (of_none q k) = let n = none_here words count r k p in absurd (n.1 refl)
-one_of words a b (of_none p h) (of_count s q k) = let n = none_here words count s h q in absurd (n.1 refl)
-one_of words a b (of_match r p h) (of_stats s q k) = absurd (clash words match_word stats r s p q (λ (e : 109 ≡ 115). omega arith))
-one_of words a b (of_match r p h) (of_count s q k) = absurd (clash words match_word count r s p q (λ (e : 109 ≡ 99). omega arith))
-one_of words a b (of_match r p h) (of_overview o s q k) = absurd (clash words match_word (overview_name o) r s p q (λ (e : 109 ≡ get_or (overview_name o) 0 0). first_apart o 109 (omega arith) (omega arith) (omega arith) (sym e)))
-one_of words a b (of_match r p h) (of_none q k) = let n = none_here words match_word r k p in absurd (n.2 refl)
-one_of words a b (of_none p h) (of_match s q k) = let n = none_here words match_word s h q in absurd (n.2 refl)
-one_of words a b (of_list r p h) (of_stats s q k) = absurd (clash words list_word stats r s p q (λ (e : 108 ≡ 115). omega arith))
-one_of words a b (of_list r p h) (of_count s q k) = absurd (clash words list_word count r s p q (λ (e : 108 ≡ 99). omega arith))
-one_of words a b (of_list r p h) (of_match s q k) = absurd (clash words list_word match_word r s p q (λ (e : 108 ≡ 109). omega arith))
-one_of words a b (of_stats r p h) (of_list s q k) = absurd (clash words stats list_word r s p q (λ (e : 115 ≡ 108). omega arith))
-one_of words a b (of_count r p h) (of_list s q k) = absurd (clash words count list_word r s p q (λ (e : 99 ≡ 108). omega arith))
-one_of words a b (of_match r p h) (of_list s q k) = absurd (clash words match_word list_word r s p q (λ (e : 109 ≡ 108). omega arith))
-one_of words a b (of_list r p h) (of_overview o s q k) = absurd (clash_at 2 words list_word (overview_name o) r s p q (λ (e : 115 ≡ get_or (overview_name o) 2 0). third_apart o (sym e)))
-one_of words a b (of_overview o r p h) (of_list s q k) = absurd (clash_at 2 words (overview_name o) list_word r s p q (λ (e : get_or (overview_name o) 2 0 ≡ 115). third_apart o e))
-one_of words a b (of_list r p h) (of_none q k) = let n = none_here words list_word r k p in absurd (n.3 refl)
-one_of words a b (of_none p h) (of_list s q k) = let n = none_here words list_word s h q in absurd (n.3 refl)
-one_of words a b (of_overview o r p h) (of_stats s q k) = absurd (clash words (overview_name o) stats r s p q (λ (e : get_or (overview_name o) 0 0 ≡ 115). first_apart o 115 (omega arith) (omega arith) (omega arith) e))
-one_of words a b (of_overview o r p h) (of_count s q k) = absurd (clash words (overview_name o) count r s p q (λ (e : get_or (overview_name o) 0 0 ≡ 99). first_apart o 99 (omega arith) (omega arith) (omega arith) e))
-one_of words a b (of_overview o r p h) (of_match s q k) = absurd (clash words (overview_name o) match_word r s p q (λ (e : get_or (overview_name o) 0 0 ≡ 109). first_apart o 109 (omega arith) (omega arith) (omega arith) e))
-one_of words a b (of_overview o r p h) (of_none q k) = let n = none_here words (overview_name o) r k p in absurd (n.5 o refl)
-one_of words a b (of_none p h) (of_overview o s q k) = let n = none_here words (overview_name o) s h q in absurd (n.5 o refl)
-one_of words a b (of_exclusive r p h) (of_exclusive s q k) = one_exclusive r a b h (subst (λ (t : List (List ℕ)). OfExclusive t b) (rest_same words exclusive_word r s p q) k)
-one_of words a b (of_exclusive r p h) (of_stats s q k) = absurd (clash words exclusive_word stats r s p q (λ (e : 101 ≡ 115). omega arith))
-one_of words a b (of_exclusive r p h) (of_count s q k) = absurd (clash words exclusive_word count r s p q (λ (e : 101 ≡ 99). omega arith))
-one_of words a b (of_exclusive r p h) (of_match s q k) = absurd (clash words exclusive_word match_word r s p q (λ (e : 101 ≡ 109). omega arith))
-one_of words a b (of_exclusive r p h) (of_list s q k) = absurd (clash words exclusive_word list_word r s p q (λ (e : 101 ≡ 108). omega arith))
-one_of words a b (of_exclusive r p h) (of_overview o s q k) = absurd (clash_at 2 words exclusive_word (overview_name o) r s p q (λ (e : 99 ≡ get_or (overview_name o) 2 0). third_apart_too o (sym e)))
-one_of words a b (of_exclusive r p h) (of_none q k) = let n = none_here words exclusive_word r k p in absurd (n.4 refl)
-one_of words a b (of_stats r p h) (of_exclusive s q k) = absurd (clash words stats exclusive_word r s p q (λ (e : 115 ≡ 101). omega arith))
-one_of words a b (of_count r p h) (of_exclusive s q k) = absurd (clash words count exclusive_word r s p q (λ (e : 99 ≡ 101). omega arith))
-one_of words a b (of_match r p h) (of_exclusive s q k) = absurd (clash words match_word exclusive_word r s p q (λ (e : 109 ≡ 101). omega arith))
-one_of words a b (of_list r p h) (of_exclusive s q k) = absurd (clash words list_word exclusive_word r s p q (λ (e : 108 ≡ 101). omega arith))
-one_of words a b (of_overview o r p h) (of_exclusive s q k) = absurd (clash_at 2 words (overview_name o) exclusive_word r s p q (λ (e : get_or (overview_name o) 2 0 ≡ 99). third_apart_too o e))
-one_of words a b (of_none p h) (of_exclusive s q k) = let n = none_here words exclusive_word s h q in absurd (n.4 refl)
-
--- the same words never have two readings
-pub one_reading : (words : List (List ℕ)) (a b : Result Question AskFault) → IsOfWords a → IsOfWords b → IsAskedAs words a → IsAskedAs words b → SameReading a b
-one_reading words a b s t p q = one_of words a b (reading words a s p) (reading words b t q)
+  pub one_explained : (words : List (List ℕ)) → IsExplainedAs words a → IsExplainedAs words b
+      → SameReading a b
+  one_explained words h k =
+      one_beginning question_word one_question words _ _ _ _ (SameReading a b)
+      one_named (one_after names.Match 0 words) h k

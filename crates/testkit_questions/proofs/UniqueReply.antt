@@ -33,14 +33,15 @@ use Rattle.tk_query.proofs.AnswerIsUnique.{one_exact, one_loose, one_in_order, o
 use Rattle.testkit_questions.specs.declared.questions.Mode.{Mode}
 use Rattle.testkit_questions.specs.declared.questions.Mode.TheVariants.{Exactly, Loosely, InOrder as InTheirOrder}
 use Rattle.testkit_questions.specs.declared.questions.Question.{Question}
-use Rattle.testkit_questions.specs.declared.questions.Question.TheVariants.{Stats, Count, Match, List as Listed, Exclusive as OfHolders, Overview as OfRecord}
-use Rattle.testkit_questions.specs.declared.questions.Overview.{Overview}
-use Rattle.testkit_questions.specs.declared.questions.Overview.TheVariants as overviews
+use Rattle.testkit_questions.specs.declared.questions.Question.TheVariants as questions
 use Rattle.tk_query_lifecycle.specs.declared.lifecycle_rules.Lifecycle.{Lifecycle}
 use Rattle.tk_query_lifecycle.proofs.LifecycleIsUnique.{lifecycle_is_unique}
 use Rattle.tk_query.specs.AnswerTexts.{exact_yes, exclusive_yes, in_order_yes, loose_yes, position_text}
-use Rattle.testkit_questions.specs.Answers.{IsMatchAnswer, events_where, IsAnswerTo, IsExclusiveAnswer, exact_line, exclusive_line, loose_line, in_order_line, execution_line, IsOverviewOf, lifecycle_line, lifecycle_yes}
-use Rattle.testkit_questions.proofs.UniqueReading.{AreAlike, AreSame}
+use Rattle.testkit_questions.specs.Answers.{IsAnswerTo, IsExclusiveAnswer, IsMatchAnswer, events_where}
+use Rattle.testkit_questions.specs.Answers.{exact_line, exclusive_line, execution_line, in_order_line}
+use Rattle.testkit_questions.specs.Answers.{lifecycle_line, lifecycle_yes, loose_line, picked}
+use Rattle.testkit_questions.proofs.UniqueReading.{AreAlike, AreSame, alike_itself, equal, excluding}
+use Rattle.testkit_questions.proofs.UniqueReading.{listing, matching}
 
 -- ---- conditions that say the same hold alike
 
@@ -199,74 +200,68 @@ in_order_same (in_order.Yes p) (in_order.No k) e = absurd e
 in_order_same (in_order.No j) (in_order.Yes q) e = absurd e
 in_order_same (in_order.No j) (in_order.No k) e = (refl, ap (λ (n : ℕ). codes "no " ++ decimal n ++ 10 ∷ []) e)
 
-one_match_answer : (m : Mode) (cs ds : List Condition) (r : Recorded) (y z : Bool) (o p : List ℕ) → AreAlike cs ds → IsMatchAnswer m cs r y o → IsMatchAnswer m ds r z p → (y ≡ z) × (o ≡ p)
-one_match_answer Exactly cs ds r y z o p like a b =
-    let e = one_exact (all_of r) ds a.0 b.0 (exact_too cs ds like (all_of r) a.0 a.1) b.1 in
-    (a.2 ∙ ap (λ (x : Exact). exact_yes x) e ∙ sym b.2, a.3 ∙ ap (λ (x : Exact). exact_line x) e ∙ sym b.3)
-one_match_answer Loosely cs ds r y z o p like a b =
-    let e = one_loose (all_of r) ds a.0 b.0 (loose_too cs ds like (all_of r) a.0 a.1) b.1 in
-    (a.2 ∙ ap (λ (x : Loose). loose_yes x) e ∙ sym b.2, a.3 ∙ ap (λ (x : Loose). loose_line x) e ∙ sym b.3)
-one_match_answer InTheirOrder cs ds r y z o p like a b =
-    let e = in_order_same a.0 b.0 (one_in_order (all_of r) ds a.0 b.0 (in_order_too (all_of r) cs ds a.0 like a.1) b.1) in
+one_match_answer : (m : Mode) (asked : Selected) (cs ds : List Condition) (y z : Bool)
+    (o p : List ℕ) → AreAlike cs ds → IsMatchAnswer m asked cs y o → IsMatchAnswer m asked ds z p
+    → (y ≡ z) × (o ≡ p)
+one_match_answer Exactly asked cs ds y z o p like a b =
+    let e = one_exact asked ds a.0 b.0 (exact_too cs ds like asked a.0 a.1) b.1 in (
+      a.2 ∙ ap (λ (x : Exact). exact_yes x) e ∙ sym b.2,
+      a.3 ∙ ap (λ (x : Exact). exact_line x) e ∙ sym b.3,
+    )
+one_match_answer Loosely asked cs ds y z o p like a b =
+    let e = one_loose asked ds a.0 b.0 (loose_too cs ds like asked a.0 a.1) b.1 in (
+      a.2 ∙ ap (λ (x : Loose). loose_yes x) e ∙ sym b.2,
+      a.3 ∙ ap (λ (x : Loose). loose_line x) e ∙ sym b.3,
+    )
+one_match_answer InTheirOrder asked cs ds y z o p like a b =
+    let e = in_order_same a.0 b.0
+        (one_in_order asked ds a.0 b.0 (in_order_too asked cs ds a.0 like a.1) b.1) in
     (a.2 ∙ e.0 ∙ sym b.2, a.3 ∙ e.1 ∙ sym b.3)
 
-one_exclusive_answer : (w v x s : Condition) (r : Recorded) (y z : Bool) (o p : List ℕ) → (cond_of w ≡ cond_of v) × (cond_of x ≡ cond_of s) → IsExclusiveAnswer w x r y o → IsExclusiveAnswer v s r z p → (y ≡ z) × (o ≡ p)
-one_exclusive_answer w v x s r y z o p same a b =
-    let e = one_exclusive (all_of r) v s a.0 b.0 (exclusive_too (all_of r) w v x s same.0 same.1 a.0 a.1) b.1 in
-    (a.2 ∙ ap (λ (t : Exclusive). exclusive_yes t) e ∙ sym b.2, a.3 ∙ ap (λ (t : Exclusive). exclusive_line t) e ∙ sym b.3)
+one_exclusive_answer : (w v x s : Condition) (r : Recorded) (y z : Bool) (o p : List ℕ)
+    → cond_of w ≡ cond_of v → cond_of x ≡ cond_of s
+    → IsExclusiveAnswer w x r y o → IsExclusiveAnswer v s r z p → (y ≡ z) × (o ≡ p)
+one_exclusive_answer w v x s r y z o p writers readers a b =
+    let e = one_exclusive (all_of r) v s a.0 b.0
+        (exclusive_too (all_of r) w v x s writers readers a.0 a.1) b.1 in (
+      a.2 ∙ ap (λ (t : Exclusive). exclusive_yes t) e ∙ sym b.2,
+      a.3 ∙ ap (λ (t : Exclusive). exclusive_line t) e ∙ sym b.3,
+    )
 
-one_overview_answer : (o : Overview) (r : Recorded) (y z : Bool) (u v : List ℕ) → IsOverviewOf o r y u → IsOverviewOf o r z v → (y ≡ z) × (u ≡ v)
-one_overview_answer overviews.Executions r y z u v a b =
-    let e = one_list (all_of r) a.0 b.0 a.1 b.1 in
+-- a question has one answer
+pub one_answer : (q : Question) (r : Recorded) (y z : Bool) (o u : List ℕ)
+    → IsAnswerTo q r y o → IsAnswerTo q r z u → (y ≡ z) × (o ≡ u)
+one_answer (questions.Stats s e) r y z o u a b = (a.0 ∙ sym b.0, a.1 ∙ sym b.1)
+one_answer (questions.Count s) r y z o u a b = (a.0 ∙ sym b.0, a.1 ∙ sym b.1)
+one_answer (questions.Match s m cs) r y z o u a b =
+    one_match_answer m (picked s r) cs.items cs.items y z o u (alike_itself cs.items) a b
+one_answer (questions.List s cs) r y z o u a b = (a.0 ∙ sym b.0, a.1 ∙ sym b.1)
+one_answer (questions.Exclusive w x) r y z o u a b =
+    one_exclusive_answer w w x x r y z o u refl refl a b
+one_answer (questions.Executions s) r y z o u a b =
+    let e = one_list (picked s r) a.0 b.0 a.1 b.1 in
     (a.2 ∙ sym b.2, a.3 ∙ ap (λ (xs : List Execution). flat_map execution_line xs) e ∙ sym b.3)
-one_overview_answer overviews.Lifecycle r y z u v a b =
-    let e = lifecycle_is_unique r a.0 b.0 a.1 b.1 in
-    (a.2 ∙ ap (λ (x : Lifecycle). lifecycle_yes x) e ∙ sym b.2, a.3 ∙ ap (λ (x : Lifecycle). lifecycle_line x) e ∙ sym b.3)
-one_overview_answer overviews.Report r y z u v a b = (a.0 ∙ sym b.0, a.1 ∙ sym b.1)
+one_answer questions.Lifecycle r y z o u a b =
+    let e = lifecycle_is_unique r a.0 b.0 a.1 b.1 in (
+      a.2 ∙ ap (λ (x : Lifecycle). lifecycle_yes x) e ∙ sym b.2,
+      a.3 ∙ ap (λ (x : Lifecycle). lifecycle_line x) e ∙ sym b.3,
+    )
+one_answer questions.Report r y z o u a b = (a.0 ∙ sym b.0, a.1 ∙ sym b.1)
 
--- the same question has one answer
-pub one_reply : (p q : Question) (r : Recorded) (y z : Bool) (o u : List ℕ) → AreSame p q → IsAnswerTo p r y o → IsAnswerTo q r z u → (y ≡ z) × (o ≡ u)
-one_reply (Stats e) (Stats f) r y z o u same a b =
-    let c = subst (λ (x : Expected). IsAnswerTo (Stats x) r y o) same a in
-    (c.0 ∙ sym b.0, c.1 ∙ sym b.1)
-one_reply (Stats e) (Count t) r y z o u same a b = absurd same
-one_reply (Stats e) (Match n ds) r y z o u same a b = absurd same
-one_reply (Stats e) (OfRecord w) r y z o u same a b = absurd same
-one_reply (Count s) (Count t) r y z o u same a b =
-    let c = subst (λ (x : Selection). IsAnswerTo (Count x) r y o) same a in
-    (c.0 ∙ sym b.0, c.1 ∙ sym b.1)
-one_reply (Count s) (Stats f) r y z o u same a b = absurd same
-one_reply (Count s) (Match n ds) r y z o u same a b = absurd same
-one_reply (Count s) (OfRecord w) r y z o u same a b = absurd same
-one_reply (Match m cs) (Match n ds) r y z o u same a b =
-    one_match_answer n cs.items ds.items r y z o u same.1 (subst (λ (x : Mode). IsMatchAnswer x cs.items r y o) same.0 a) b
-one_reply (Match m cs) (Stats f) r y z o u same a b = absurd same
-one_reply (Match m cs) (Count t) r y z o u same a b = absurd same
-one_reply (Match m cs) (OfRecord w) r y z o u same a b = absurd same
-one_reply (Match m cs) (Listed t ds) r y z o u same a b = absurd same
-one_reply (Listed s cs) (Listed t ds) r y z o u same a b =
-    let c = subst (λ (x : Selection). IsAnswerTo (Listed x cs) r y o) same.0 a in
-    (c.0 ∙ sym b.0, c.1 ∙ ap event_list (same_events t cs.items ds.items r same.1) ∙ sym b.1)
-one_reply (Listed s cs) (Stats f) r y z o u same a b = absurd same
-one_reply (Listed s cs) (Count t) r y z o u same a b = absurd same
-one_reply (Listed s cs) (Match n ds) r y z o u same a b = absurd same
-one_reply (Listed s cs) (OfRecord w) r y z o u same a b = absurd same
-one_reply (Stats e) (Listed t ds) r y z o u same a b = absurd same
-one_reply (Count s) (Listed t ds) r y z o u same a b = absurd same
-one_reply (OfRecord v) (Listed t ds) r y z o u same a b = absurd same
-one_reply (OfRecord v) (OfRecord w) r y z o u same a b =
-    one_overview_answer w r y z o u (subst (λ (x : Overview). IsOverviewOf x r y o) same a) b
-one_reply (OfRecord v) (Stats f) r y z o u same a b = absurd same
-one_reply (OfRecord v) (Count t) r y z o u same a b = absurd same
-one_reply (OfRecord v) (Match n ds) r y z o u same a b = absurd same
-one_reply (OfHolders w x) (OfHolders v s) r y z o u same a b = one_exclusive_answer w v x s r y z o u same a b
-one_reply (OfHolders w x) (Stats f) r y z o u same a b = absurd same
-one_reply (OfHolders w x) (Count t) r y z o u same a b = absurd same
-one_reply (OfHolders w x) (Match n ds) r y z o u same a b = absurd same
-one_reply (OfHolders w x) (Listed t ds) r y z o u same a b = absurd same
-one_reply (OfHolders w x) (OfRecord v) r y z o u same a b = absurd same
-one_reply (Stats e) (OfHolders v s) r y z o u same a b = absurd same
-one_reply (Count t) (OfHolders v s) r y z o u same a b = absurd same
-one_reply (Match m cs) (OfHolders v s) r y z o u same a b = absurd same
-one_reply (Listed t cs) (OfHolders v s) r y z o u same a b = absurd same
-one_reply (OfRecord t) (OfHolders v s) r y z o u same a b = absurd same
+-- questions that ask the same have one answer
+pub one_reply : (p q : Question) (r : Recorded) (y z : Bool) (o u : List ℕ) → AreSame p q
+    → IsAnswerTo p r y o → IsAnswerTo q r z u → (y ≡ z) × (o ≡ u)
+one_reply p q r y z o u (equal e) a b =
+    one_answer q r y z o u (subst (λ (x : Question). IsAnswerTo x r y o) e a) b
+one_reply p q r y z o u (matching s m cs ds like e f) a b =
+    one_match_answer m (picked s r) cs.items ds.items y z o u like
+    (subst (λ (x : Question). IsAnswerTo x r y o) e a)
+    (subst (λ (x : Question). IsAnswerTo x r z u) f b)
+one_reply p q r y z o u (listing s cs ds like e f) a b =
+    let c = subst (λ (x : Question). IsAnswerTo x r y o) e a in
+    let d = subst (λ (x : Question). IsAnswerTo x r z u) f b in
+    (c.0 ∙ sym d.0, c.1 ∙ ap event_list (same_events s cs.items ds.items r like) ∙ sym d.1)
+one_reply p q r y z o u (excluding w x v s writers readers e f) a b =
+    one_exclusive_answer w v x s r y z o u writers readers
+    (subst (λ (t : Question). IsAnswerTo t r y o) e a)
+    (subst (λ (t : Question). IsAnswerTo t r z u) f b)

@@ -10,7 +10,6 @@ use Rattle.std.specs.Prelude.{
   [],
   ◌∷◌,
   ◌++◌,
-  codes,
   count_by,
   length,
   ◌==◌,
@@ -21,15 +20,16 @@ use Rattle.tk_record.specs.declared.selections.Selection.{Selection}
 use Rattle.tk_record.specs.declared.statistics.Mismatch.{Mismatch}
 use Rattle.tk_record.specs.Recorded.{Recorded}
 use Rattle.tk_record.specs.Selections.{
-  selection_name,
   Selected,
   all_of,
+  events_of,
   filtered_by,
   selects,
 }
 use Rattle.tk_record.specs.Statistics.{statistics_of, mismatches}
 use Rattle.tk_record_text.specs.StatisticsText.{statistics_text}
 use Rattle.tk_record_text.specs.EventLists.{event_list}
+use Rattle.tk_explanations.specs.Statistics.{mismatch_text}
 use Rattle.tk_query_conditions.specs.declared.conditions.Condition.{Condition}
 use Rattle.tk_query.specs.declared.answers.Exact.{Exact}
 use Rattle.tk_query.specs.declared.answers.Exclusive.{Exclusive}
@@ -64,8 +64,6 @@ use Rattle.tk_query_lifecycle.specs.declared.lifecycle_rules.Lifecycle.TheVarian
 use Rattle.tk_query_lifecycle.specs.Lifecycle.{IsLifecycle}
 use Rattle.tk_query_lifecycle.specs.LifecycleTexts.{lifecycle_text}
 use Rattle.tk_report_text.specs.Reports.{report_of_record}
-use Rattle.testkit_questions.specs.declared.questions.Overview.{Overview}
-use Rattle.testkit_questions.specs.declared.questions.Overview.TheVariants as overviews
 use Rattle.testkit_questions.specs.declared.questions.Question.{Question}
 use Rattle.testkit_questions.specs.declared.questions.Question.TheVariants.{
   Stats,
@@ -73,14 +71,14 @@ use Rattle.testkit_questions.specs.declared.questions.Question.TheVariants.{
   Match,
   List as Listed,
   Exclusive as OfHolders,
-  Overview as OfRecord,
+  Executions,
+  Lifecycle as OfLifecycle,
+  Report,
 }
 
 -- a statistic that differs from what was expected of it
 abbrev pub mismatch_line : Mismatch → List ℕ
-mismatch_line m =
-    codes "mismatch " ++ selection_name m.selection ++ codes " expected " ++ decimal m.expected
-    ++ codes " actual " ++ decimal m.actual ++ line_feed ∷ []
+mismatch_line m = mismatch_text m ++ line_feed ∷ []
 
 -- an answer's words as a line
 abbrev pub exact_line : Exact → List ℕ
@@ -101,16 +99,20 @@ execution_line x =
     decimal x.key ++ blank ∷ ending_name x.ending ++ blank ∷ decimal x.start
     ++ blank ∷ decimal x.stop ++ line_feed ∷ []
 
--- What a mode's matcher answers of all events of the record: whether it says yes, and its line.
-abbrev pub IsMatchAnswer : Mode → List Condition → Recorded → Bool → List ℕ → Type 0
-IsMatchAnswer Exactly conditions r is_yes output =
-    (answer : Exact) × IsExact (all_of r) conditions answer
+-- the events of the record that the selection picks
+abbrev pub picked : Selection → Recorded → Selected
+picked selection r = filtered_by (selects selection r) (all_of r)
+
+-- What a mode's matcher answers of these events: whether it says yes, and its line.
+abbrev pub IsMatchAnswer : Mode → Selected → List Condition → Bool → List ℕ → Type 0
+IsMatchAnswer Exactly asked conditions is_yes output =
+    (answer : Exact) × IsExact asked conditions answer
     × (is_yes ≡ exact_yes answer) × (output ≡ exact_line answer)
-IsMatchAnswer Loosely conditions r is_yes output =
-    (answer : Loose) × IsLoose (all_of r) conditions answer
+IsMatchAnswer Loosely asked conditions is_yes output =
+    (answer : Loose) × IsLoose asked conditions answer
     × (is_yes ≡ loose_yes answer) × (output ≡ loose_line answer)
-IsMatchAnswer InTheirOrder conditions r is_yes output =
-    (answer : InOrder) × IsInOrder (all_of r) conditions answer
+IsMatchAnswer InTheirOrder asked conditions is_yes output =
+    (answer : InOrder) × IsInOrder asked conditions answer
     × (is_yes ≡ in_order_yes answer) × (output ≡ in_order_line answer)
 
 -- the events of the record that the selection picks and of which each condition holds
@@ -132,30 +134,35 @@ IsExclusiveAnswer writers readers r is_yes output =
     (answer : Exclusive) × IsExclusive (all_of r) writers readers answer
     × (is_yes ≡ exclusive_yes answer) × (output ≡ exclusive_line answer)
 
--- an overview of a record, and whether it is a yes
-abbrev pub IsOverviewOf : Overview → Recorded → Bool → List ℕ → Type 0
-IsOverviewOf overviews.Executions r is_yes output =
-    (xs : List Execution) × AreExecutions (step_at (all_of r)) xs
+-- the executions that the events show, a line each
+abbrev pub IsExecutionsAnswer : Selected → Bool → List ℕ → Type 0
+IsExecutionsAnswer asked is_yes output =
+    (xs : List Execution) × AreExecutions (step_at asked) xs
     × (is_yes ≡ true) × (output ≡ flat_map execution_line xs)
-IsOverviewOf overviews.Lifecycle r is_yes output =
+
+-- whether the record keeps the lifecycle
+abbrev pub IsLifecycleAnswer : Recorded → Bool → List ℕ → Type 0
+IsLifecycleAnswer r is_yes output =
     (answer : Lifecycle) × IsLifecycle r answer
     × (is_yes ≡ lifecycle_yes answer) × (output ≡ lifecycle_line answer)
-IsOverviewOf overviews.Report r is_yes output = (is_yes ≡ true) × (output ≡ report_of_record r)
 
 -- What a question about a record answers: whether it is a yes, and the output.
 abbrev pub IsAnswerTo : Question → Recorded → Bool → List ℕ → Type 0
-IsAnswerTo (Stats expected) r is_yes output =
-    let statistics = statistics_of r.entries in
+IsAnswerTo (Stats selection expected) r is_yes output =
+    let statistics = statistics_of (events_of (picked selection r)) in
     let differing = mismatches expected statistics in
     (is_yes ≡ (length differing == 0))
     × (output ≡ statistics_text statistics ++ flat_map mismatch_line differing)
 IsAnswerTo (Count selection) r is_yes output =
     (is_yes ≡ true)
     × (output ≡ decimal (count_by (selects selection r) r.entries) ++ line_feed ∷ [])
-IsAnswerTo (Match mode conditions) r is_yes output =
-    IsMatchAnswer mode conditions.items r is_yes output
+IsAnswerTo (Match selection mode conditions) r is_yes output =
+    IsMatchAnswer mode (picked selection r) conditions.items is_yes output
 IsAnswerTo (Listed selection conditions) r is_yes output =
     (is_yes ≡ true) × (output ≡ event_list (events_where selection conditions.items r))
 IsAnswerTo (OfHolders writers readers) r is_yes output =
     IsExclusiveAnswer writers readers r is_yes output
-IsAnswerTo (OfRecord overview) r is_yes output = IsOverviewOf overview r is_yes output
+IsAnswerTo (Executions selection) r is_yes output =
+    IsExecutionsAnswer (picked selection r) is_yes output
+IsAnswerTo OfLifecycle r is_yes output = IsLifecycleAnswer r is_yes output
+IsAnswerTo Report r is_yes output = (is_yes ≡ true) × (output ≡ report_of_record r)

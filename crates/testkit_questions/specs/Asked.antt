@@ -11,7 +11,7 @@ use Rattle.tk_record_text.specs.declared.reading.TheConstants.{MAX_TEXT}
 use Rattle.tk_record_text.specs.Text.{IsAnswer}
 use Rattle.testkit_questions.specs.declared.faults.AskFault.{AskFault}
 use Rattle.testkit_questions.specs.declared.faults.AskFault.TheVariants as faults
-use Rattle.testkit_questions.specs.declared.requests.Request.{Request}
+use Rattle.testkit_questions.specs.declared.questions.Request.{Request}
 use Rattle.testkit_questions.specs.Requests.{IsRequestedAs, Requests}
 use Rattle.testkit_questions.specs.Explanations.{IsResponseTo}
 

@@ -3,15 +3,8 @@ use Rattle.std.specs.Prelude.{ℕ, List}
 use Rattle.testkit_questions.specs.Questions.{IsBadCondition}
 use Rattle.testkit_questions.specs.declared.conditions.ConditionsFault.{ConditionsFault}
 use Rattle.testkit_questions.specs.declared.conditions.ConditionsFault.TheVariants as faults
-use Rattle.testkit_questions.specs.declared.faults.AskFault.{AskFault}
-use Rattle.testkit_questions.specs.declared.faults.AskFault.TheVariants as asks
 
 -- the texts before the one of this number are conditions, and it is none for this reason
 abbrev pub IsConditionsFault : List (List ℕ) → ConditionsFault → Type 0
 IsConditionsFault texts (faults.Condition number fault) = IsBadCondition texts number fault
 IsConditionsFault texts faults.Memory = Unit {0}
-
--- the fault of words that are these texts
-abbrev pub ask_fault_of_conditions : ConditionsFault → AskFault
-ask_fault_of_conditions (faults.Condition number fault) = asks.Condition number fault
-ask_fault_of_conditions faults.Memory = asks.Memory

@@ -1,6 +1,5 @@
 pub mod Characters
 pub mod Questions
-pub mod Explainables
 pub mod Requests
 pub mod Conditions
 pub mod Answers

@@ -24,7 +24,9 @@ use Rattle.std.specs.Prelude.{
   ◌&&◌,
   if◌then◌else◌,
   length,
+  Vec,
 }
+use Rattle.std.specs.Global.{Global}
 use Rattle.std.specs.List.{slice_get}
 use Rattle.std.specs.Fmt.{decimal}
 use Rattle.tk_query_conditions.specs.declared.faults.CondFault.{CondFault}
@@ -34,6 +36,7 @@ use Rattle.tk_query_conditions.specs.Answer.{IsReadAs}
 use Rattle.tk_query_conditions.specs.Cond.{Any, Nothing}
 use Rattle.tk_query_conditions.specs.CondOf.{cond_of}
 use Rattle.tk_record.specs.declared.selections.Selection.{Selection}
+use Rattle.tk_record.specs.declared.selections.Selection.TheVariants.{All}
 use Rattle.tk_record.specs.declared.statistics.Expected.{Expected}
 use Rattle.tk_record.specs.Selections.{selection_name}
 use Rattle.tk_record.specs.Statistics.{
@@ -47,10 +50,48 @@ use Rattle.testkit_questions.specs.declared.faults.AskFault.{AskFault}
 use Rattle.testkit_questions.specs.declared.faults.AskFault.TheVariants as faults
 use Rattle.testkit_questions.specs.declared.questions.Mode.{Mode}
 use Rattle.testkit_questions.specs.declared.questions.Mode.TheVariants.{Exactly, Loosely, InOrder}
-use Rattle.testkit_questions.specs.declared.questions.Overview.{Overview}
-use Rattle.testkit_questions.specs.declared.questions.Overview.TheVariants as overviews
 use Rattle.testkit_questions.specs.declared.questions.Question.{Question}
 use Rattle.testkit_questions.specs.declared.questions.Question.TheVariants as questions
+use Rattle.testkit_questions.specs.declared.questions.QuestionName.{QuestionName}
+use Rattle.testkit_questions.specs.declared.questions.QuestionName.TheVariants as names
+
+-- ---- names
+
+-- the word that names a question
+abbrev pub question_word : QuestionName → List ℕ
+question_word names.Stats = codes "stats"
+question_word names.Count = codes "count"
+question_word names.Match = codes "match"
+question_word names.List = codes "list"
+question_word names.Exclusive = codes "exclusive"
+question_word names.Executions = codes "executions"
+question_word names.Lifecycle = codes "lifecycle"
+question_word names.Report = codes "report"
+
+abbrev pub mode_name : Mode → List ℕ
+mode_name Exactly = codes "exactly"
+mode_name Loosely = codes "loosely"
+mode_name InOrder = codes "in-order"
+
+-- what a word is read as that may be a name
+abbrev pub IsNamed : {A : Type 0} → (A → List ℕ) → List ℕ → Option A → Type 0
+IsNamed name word (Some named) = word ≡ name named
+IsNamed {A = A} name word None = (named : A) → word ≢ name named
+
+-- there is no first word, or it is none of the names
+abbrev pub IsNoName : {A : Type 0} → (A → List ℕ) → List (List ℕ) → Type 0
+IsNoName name [] = Unit {0}
+IsNoName name (word ∷ _) = IsNamed name word None
+
+-- The words begin with one of the names, and `After` holds of it and of the words after it; or
+-- they begin with none, and `Else` holds.
+abbrev pub Begins :
+    {A : Type 0} → (A → List ℕ) → List (List ℕ) → (A → List (List ℕ) → Type 0) → Type 0 → Type 0
+Begins {A = A} name words After Else =
+    ((named : A) × (rest : List (List ℕ)) × (words ≡ name named ∷ rest) × After named rest)
+    ⊎ (IsNoName name words × Else)
+
+-- ---- expectations and conditions
 
 -- the word NAME=N
 abbrev pub expectation_word : Selection → ℕ → List ℕ
@@ -93,16 +134,6 @@ pub record IsBadExpectation (words : List (List ℕ)) (i : ℕ) : Type 0 where
   pub at : slice_get words i ≡ Some word
   pub bad : IsNextExpected expected word None
 
-abbrev pub mode_name : Mode → List ℕ
-mode_name Exactly = codes "exactly"
-mode_name Loosely = codes "loosely"
-mode_name InOrder = codes "in-order"
-
--- what a mode's name is read as
-abbrev pub IsMode : List ℕ → Option Mode → Type 0
-IsMode name (Some mode) = name ≡ mode_name mode
-IsMode name None = (mode : Mode) → name ≢ mode_name mode
-
 -- each text is that of its condition
 abbrev pub AreConditions : List (List ℕ) → List Condition → Type 0
 AreConditions [] [] = Unit {0}
@@ -118,12 +149,13 @@ pub record IsBadCondition (texts : List (List ℕ)) (i : ℕ) (fault : CondFault
   pub bad : IsReadAs text (Err fault)
   pub read : fault ≢ condition_faults.Memory
 
--- the fault of words after word 0, which is a mode or a selection
-abbrev pub IsConditionFault : List (List ℕ) → AskFault → Type 0
-IsConditionFault texts (faults.Condition i fault) =
-    (at : ℕ) × (i ≡ at + 1) × IsBadCondition texts at fault
-IsConditionFault texts faults.Memory = Unit {0}
-IsConditionFault texts _ = ⊥
+-- the fault of texts of which one is no condition, or for which memory was refused; the first text
+-- has this number as a word
+abbrev pub IsConditionFault : ℕ → List (List ℕ) → AskFault → Type 0
+IsConditionFault first texts fault =
+    ((at : ℕ) × (why : CondFault) × IsBadCondition texts at why
+    × (fault ≡ faults.Condition (first + at) why))
+    ⊎ (fault ≡ faults.Memory)
 
 -- The texts are those of the conditions of writers and of readers. Without a second text the
 -- readers' condition is `any()`, which holds of no event.
@@ -136,93 +168,77 @@ AreHolders texts writers readers =
 abbrev pub IsBadHolder : List (List ℕ) → ℕ → Type 0
 IsBadHolder texts i = ((texts ≡ []) × (i ≡ 0)) ⊎ ((2 < length texts) × (i ≡ 2))
 
--- there is no first word, or it is none of the names
-abbrev pub IsNoName : {A : Type 0} → (A → List ℕ) → List (List ℕ) → Type 0
-IsNoName name [] = Unit {0}
-IsNoName {A = A} name (word ∷ _) = (named : A) → word ≢ name named
+-- ---- words
 
-abbrev pub stats : List ℕ
-stats = codes "stats"
+-- what words are read as: the question that they ask, or the fault of the first bad one
+abbrev pub Reading : Type 0
+Reading = Result Question AskFault
 
-abbrev pub count : List ℕ
-count = codes "count"
+-- no word is left, or the first that is left is bad
+abbrev pub IsEnd : Question → ℕ → List (List ℕ) → Reading → Type 0
+IsEnd question first [] reading = reading ≡ Ok question
+IsEnd question first (_ ∷ _) reading = reading ≡ Err (faults.Word first)
 
-abbrev pub match_word : List ℕ
-match_word = codes "match"
+-- the words are what is expected of the statistics of the selection's events
+abbrev pub IsStatsReading : Selection → ℕ → List (List ℕ) → Reading → Type 0
+IsStatsReading selection first words reading =
+    ((expected : Expected) × Expecting nothing_expected words expected
+    × (reading ≡ Ok (questions.Stats selection expected)))
+    ⊎ ((at : ℕ) × IsBadExpectation words at × (reading ≡ Err (faults.Word (first + at))))
 
-abbrev pub list_word : List ℕ
-list_word = codes "list"
+-- the words are the texts of the question's conditions
+abbrev pub IsConditionsReading :
+    (Vec Condition Global → Question) → ℕ → List (List ℕ) → Reading → Type 0
+IsConditionsReading question first texts reading =
+    ((conditions : Vec Condition Global) × AreConditions texts conditions.items
+    × (reading ≡ Ok (question conditions)))
+    ⊎ ((fault : AskFault) × IsConditionFault first texts fault × (reading ≡ Err fault))
 
-abbrev pub exclusive_word : List ℕ
-exclusive_word = codes "exclusive"
+-- the words are a mode and the texts of conditions
+abbrev pub IsMatchReading : Selection → ℕ → List (List ℕ) → Reading → Type 0
+IsMatchReading selection first words reading =
+    Begins mode_name words
+    (λ mode texts. IsConditionsReading (questions.Match selection mode) (first + 1) texts reading)
+    (reading ≡ Err (faults.Word first))
 
-abbrev pub overview_name : Overview → List ℕ
-overview_name overviews.Executions = codes "executions"
-overview_name overviews.Lifecycle = codes "lifecycle"
-overview_name overviews.Report = codes "report"
+-- the words are the texts of the conditions of writers and of readers
+abbrev pub IsExclusiveReading : ℕ → List (List ℕ) → Reading → Type 0
+IsExclusiveReading first texts reading =
+    ((writers : Condition) × (readers : Condition) × AreHolders texts writers readers
+    × (reading ≡ Ok (questions.Exclusive writers readers)))
+    ⊎ ((i : ℕ) × IsBadHolder texts i × (reading ≡ Err (faults.Word (first + i))))
+    ⊎ ((length texts ≤ 2)
+    × (fault : AskFault) × IsConditionFault first texts fault × (reading ≡ Err fault))
 
--- what an overview's name is read as
-abbrev pub IsOverview : List ℕ → Option Overview → Type 0
-IsOverview name (Some overview) = name ≡ overview_name overview
-IsOverview name None = (overview : Overview) → name ≢ overview_name overview
+-- What the words after a question's name are read as; the first of them has this number. Where
+-- a selection may stand and doesn't, all events are asked.
+abbrev pub IsReadAfter : QuestionName → ℕ → List (List ℕ) → Reading → Type 0
+IsReadAfter names.Stats first words reading =
+    Begins selection_name words
+    (λ selection rest. IsStatsReading selection (first + 1) rest reading)
+    (IsStatsReading All first words reading)
+IsReadAfter names.Count first words reading =
+    Begins selection_name words
+    (λ selection rest. IsEnd (questions.Count selection) (first + 1) rest reading)
+    (reading ≡ Err (faults.Word first))
+IsReadAfter names.Match first words reading =
+    Begins selection_name words
+    (λ selection rest. IsMatchReading selection (first + 1) rest reading)
+    (IsMatchReading All first words reading)
+IsReadAfter names.List first words reading =
+    Begins selection_name words
+    (λ selection texts. IsConditionsReading (questions.List selection) (first + 1) texts reading)
+    (reading ≡ Err (faults.Word first))
+IsReadAfter names.Exclusive first words reading = IsExclusiveReading first words reading
+IsReadAfter names.Executions first words reading =
+    Begins selection_name words
+    (λ selection rest. IsEnd (questions.Executions selection) (first + 1) rest reading)
+    (IsEnd (questions.Executions All) first words reading)
+IsReadAfter names.Lifecycle first words reading = IsEnd questions.Lifecycle first words reading
+IsReadAfter names.Report first words reading = IsEnd questions.Report first words reading
 
--- the words that ask a question
-abbrev pub Asks : List (List ℕ) → Question → Type 0
-Asks words (questions.Stats expected) =
-    (rest : List (List ℕ)) × (words ≡ stats ∷ rest) × Expecting nothing_expected rest expected
-Asks words (questions.Count selection) = words ≡ count ∷ selection_name selection ∷ []
-Asks words (questions.Match mode conditions) =
-    (texts : List (List ℕ)) × (words ≡ match_word ∷ mode_name mode ∷ texts)
-    × AreConditions texts conditions.items
-Asks words (questions.List selection conditions) =
-    (texts : List (List ℕ)) × (words ≡ list_word ∷ selection_name selection ∷ texts)
-    × AreConditions texts conditions.items
-Asks words (questions.Exclusive writers readers) =
-    (texts : List (List ℕ)) × (words ≡ exclusive_word ∷ texts) × AreHolders texts writers readers
-Asks words (questions.Overview overview) = words ≡ overview_name overview ∷ []
-
--- there is no first word, or it names no question
-abbrev pub IsNoQuestion : List (List ℕ) → Type 0
-IsNoQuestion [] = Unit {0}
-IsNoQuestion (word ∷ _) =
-    (word ≢ stats) × (word ≢ count) × (word ≢ match_word) × (word ≢ list_word)
-    × (word ≢ exclusive_word) × ((overview : Overview) → word ≢ overview_name overview)
-
--- Word i after the question is the first bad one; a word that should be a condition isn't one of
--- these.
-abbrev pub IsBadWord : List (List ℕ) → ℕ → Type 0
-IsBadWord words i =
-    ((rest : List (List ℕ)) × (words ≡ stats ∷ rest) × IsBadExpectation rest i)
-    ⊎ ((rest : List (List ℕ)) × (words ≡ count ∷ rest) × (i ≡ 0)
-    × IsNoName selection_name rest)
-    ⊎ ((selection : Selection) × (extra : List ℕ) × (more : List (List ℕ))
-    × (words ≡ count ∷ selection_name selection ∷ extra ∷ more) × (i ≡ 1))
-    ⊎ ((rest : List (List ℕ)) × (words ≡ match_word ∷ rest) × (i ≡ 0)
-    × IsNoName mode_name rest)
-    ⊎ ((rest : List (List ℕ)) × (words ≡ list_word ∷ rest) × (i ≡ 0)
-    × IsNoName selection_name rest)
-    ⊎ ((overview : Overview) × (extra : List ℕ) × (more : List (List ℕ))
-    × (words ≡ overview_name overview ∷ extra ∷ more) × (i ≡ 0))
-    ⊎ ((rest : List (List ℕ)) × (words ≡ exclusive_word ∷ rest) × IsBadHolder rest i)
-
--- A word that should be a condition isn't one: those before it are, and stand after the question's
--- word and word 0.
-abbrev pub HasConditionFault : List ℕ → List ℕ → List (List ℕ) → AskFault → Type 0
-HasConditionFault question word words fault =
-    (texts : List (List ℕ)) × (words ≡ question ∷ word ∷ texts) × IsConditionFault texts fault
-
--- what the words are read as: the question, or the fault, which is of a bad word before it is of a
--- condition
-abbrev pub IsAskedAs : List (List ℕ) → Result Question AskFault → Type 0
-IsAskedAs words (Ok question) = Asks words question
-IsAskedAs words (Err faults.Question) = IsNoQuestion words
-IsAskedAs words (Err (faults.Word i)) = IsBadWord words i
-IsAskedAs words (Err (faults.Condition i fault)) =
-    ((mode : Mode) × HasConditionFault match_word (mode_name mode) words
-    (faults.Condition i fault))
-    ⊎ ((selection : Selection) × HasConditionFault list_word (selection_name selection) words
-    (faults.Condition i fault))
-    ⊎ ((rest : List (List ℕ)) × (words ≡ exclusive_word ∷ rest) × (length rest ≤ 2)
-    × IsBadCondition rest i fault)
-IsAskedAs words (Err faults.Memory) = Unit {0}
-IsAskedAs words (Err _) = ⊥
+-- what the words are read as, the first of which names a question
+abbrev pub IsAskedAs : List (List ℕ) → Reading → Type 0
+IsAskedAs words reading =
+    Begins question_word words (λ name rest. IsReadAfter name 0 rest reading)
+    (reading ≡ Err faults.Question)

@@ -1,4 +1,2 @@
-pub mod Requests
 pub mod Replies
-pub mod Asked
 pub mod Conditions

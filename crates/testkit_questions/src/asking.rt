@@ -6,16 +6,16 @@ ghost use Rattle.tk_record_text.specs.declared.reading.ReadFault.TheVariants as 
 ghost use Rattle.tk_record_text.specs.declared.reading.TheConstants.{MAX_TEXT};
 ghost use Rattle.tk_streams.specs.Stream.{ConsumesUpTo};
 ghost use Rattle.tk_streams.specs.declared.transfers.TheConstants.{CHUNK};
-ghost use Rattle.testkit_questions.specs.declared.requests.Request.TheVariants as requests;
+ghost use Rattle.tk_explanations.specs.Explained.{IsExplained};
 ghost use Rattle.testkit_questions.specs.Asked.{AddsAnswer, AddsPrefix, IsOfWords, IsReadInTime, IsReadRefusal, IsRefusal};
-ghost use Rattle.testkit_questions.specs.steps.Asked.{IsReply, written};
+ghost use Rattle.testkit_questions.specs.Explanations.{IsResponseTo};
 
-use crate::answers::reply_to;
-use crate::explanations::explain;
+use crate::explanations::{explain, write_answer};
 use crate::faults::AskFault;
-use crate::questions::{Explainable, Question};
-use crate::requests::{Request, read_request};
+use crate::questions::Request;
+use crate::reading::read_request;
 use std::alloc::Global;
+use tk_explanations::ExplainFault;
 use tk_record::Record;
 use tk_record_text::{ReadFault, read_record};
 use tk_streams::{Source, Target};
@@ -38,57 +38,22 @@ fn read_input<S: Source>(alloc: Global, source: &mut S) -> Result<Record, AskFau
     }
 }
 
-// Writes the answer to a question about a record. All memory is had before the first byte goes out.
-fn write_answer<T: Target>(
-    alloc: Global,
-    record: &Record,
-    question: &Question,
-    target: &mut T,
-) -> Result<bool, AskFault>
-    ensures answer { IsReply (requests.Answer question.now) «record».now
-        (written (T.contents target.old) (T.contents target.new)) result }
-    ensures unwritten { IsErrOf result AskFault.Memory → target.new ≡ target.old }
-    ensures device { IsErrOf result AskFault.Device → T.broken target.new ≡ true }
-{
-    let reply = reply_to(alloc, record, question)?;
-    let is_yes = reply.is_yes();
-    match reply.write(target) {
-        Ok(()) => Ok(is_yes),
-        Err(_) => Err(AskFault::Device),
-    }
-}
-
-// Writes the explanation of the answer to a question about a record.
-fn write_explanation<T: Target>(
-    alloc: Global,
-    record: &Record,
-    explainable: &Explainable,
-    target: &mut T,
-) -> Result<bool, AskFault>
-    ensures answer { IsReply (requests.Explain explainable.now) «record».now
-        (written (T.contents target.old) (T.contents target.new)) result }
-    ensures unwritten { IsErrOf result AskFault.Memory → target.new ≡ target.old }
-    ensures device { IsErrOf result AskFault.Device → T.broken target.new ≡ true }
-{
-    let is_yes = explain(alloc, record, explainable, target)?;
-    Ok(is_yes)
-}
-
 // Writes what is asked for about a record.
 fn respond<T: Target>(
     alloc: Global,
     record: &Record,
     request: &Request,
     target: &mut T,
-) -> Result<bool, AskFault>
-    ensures answer { IsReply request.now «record».now
-        (written (T.contents target.old) (T.contents target.new)) result }
-    ensures unwritten { IsErrOf result AskFault.Memory → target.new ≡ target.old }
-    ensures device { IsErrOf result AskFault.Device → T.broken target.new ≡ true }
+) -> Result<bool, ExplainFault>
+    ensures written { IsExplained (IsResponseTo request.now «record».now)
+        (T.contents target.old) (T.contents target.new) result }
+    ensures unwritten { IsErrOf result ExplainFault.Memory → target.new ≡ target.old }
+    ensures device { IsErrOf result ExplainFault.Device → T.broken target.new ≡ true }
 {
-    match request {
-        Request::Answer(question) => write_answer(alloc, record, question, target),
-        Request::Explain(explainable) => write_explanation(alloc, record, explainable, target),
+    if request.is_explained {
+        explain(alloc, record, &request.question, target)
+    } else {
+        write_answer(alloc, record, &request.question, target)
     }
 }
 
@@ -129,5 +94,6 @@ pub fn ask<S: Source, T: Target>(
 {
     let request = read_request(alloc, words)?;
     let recorded = read_input(alloc, source)?;
-    respond(alloc, &recorded, &request, target)
+    let is_yes = respond(alloc, &recorded, &request, target)?;
+    Ok(is_yes)
 }

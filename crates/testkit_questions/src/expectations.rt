@@ -1,5 +1,5 @@
 //! Expectations of statistics, as words NAME=N.
-ghost use Rattle.std.specs.Prelude.{◌≡◌, ℕ, map, string_bytes, IfOk, IfErr, IfSome, IfNone};
+ghost use Rattle.std.specs.Prelude.{◌≡◌, ◌<◌, ℕ, length, map, string_bytes, IfOk, IfErr, IfSome, IfNone};
 ghost use Rattle.tk_record.specs.Statistics.{nothing_expected};
 ghost use Rattle.testkit_questions.specs.Questions.{expecting, Expecting, IsBadExpectation, IsExpectation, IsNextExpected};
 ghost use Rattle.tk_record.specs.declared.selections.Selection.{Selection};
@@ -56,6 +56,7 @@ pub(crate) fn read_expectations(words: &[String]) -> Result<Expected, usize>
     ensures ok { IfOk result (λ expected.
         Expecting nothing_expected (map string_bytes words.now) expected) }
     ensures err { IfErr result (λ at. IsBadExpectation (map string_bytes words.now) at) }
+    ensures within { IfErr result (λ at. at < length words.now) }
 {
     let mut expected = Expected::none();
     for (at, word) in words.iter().enumerate() {

@@ -2,9 +2,7 @@
 ghost use Rattle.std.specs.Prelude.{◌≡◌};
 ghost use Rattle.testkit_questions.specs.declared.faults.AskFault.TheVariants.{Memory as MemoryFault};
 ghost use Rattle.testkit_questions.specs.FaultsOfExplanations.{ask_fault_of};
-ghost use Rattle.testkit_questions.specs.Conditions.{ask_fault_of_conditions};
 
-use crate::conditions::ConditionsFault;
 use crate::fault_texts::AskFaultText;
 use std::alloc::AllocError;
 use thiserror::Error;
@@ -46,17 +44,6 @@ impl From<ExplainFault> for AskFault {
         match fault {
             ExplainFault::Device => AskFault::Device,
             ExplainFault::Memory => AskFault::Memory,
-        }
-    }
-}
-
-impl From<ConditionsFault> for AskFault {
-    ghost from_gives = { λ fault e. e ≡ ask_fault_of_conditions fault };
-
-    fn from(fault: ConditionsFault) -> AskFault {
-        match fault {
-            ConditionsFault::Condition(number, fault) => AskFault::Condition(number, fault),
-            ConditionsFault::Memory => AskFault::Memory,
         }
     }
 }

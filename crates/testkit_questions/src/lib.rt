@@ -11,12 +11,12 @@ mod fault_texts;
 mod faults;
 pub mod laws;
 mod questions;
+mod reading;
 mod replies;
-mod requests;
 
 pub use asking::ask;
 pub use conditions::{ConditionsFault, read_conditions};
 pub use fault_texts::AskFaultText;
 pub use faults::AskFault;
-pub use questions::{Explainable, Mode, Overview, Question, read_question};
-pub use requests::{Request, read_request};
+pub use questions::{Mode, Question, QuestionName, Request};
+pub use reading::{read_question, read_request};

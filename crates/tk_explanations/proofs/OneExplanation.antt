@@ -6,6 +6,7 @@ use Rattle.std.proofs.lemmas.Bool.{true≢false}
 use Rattle.std.proofs.lemmas.Option.{same_Some}
 use Rattle.tk_record.specs.Recorded.{Recorded}
 use Rattle.tk_record.specs.Selections.{Selected}
+use Rattle.tk_record.specs.declared.statistics.Expected.{Expected}
 use Rattle.tk_query_lifecycle.specs.LifecycleTexts.{lifecycle_text}
 use Rattle.tk_query_lifecycle.specs.declared.lifecycle_rules.Lifecycle.{Lifecycle}
 use Rattle.tk_query_lifecycle.proofs.LifecycleIsUnique.{lifecycle_is_unique}
@@ -36,6 +37,7 @@ use Rattle.tk_explanations.specs.Lists.{ExplainsExecutions, ExplainsList, listed
 use Rattle.tk_explanations.specs.MatchRows.{condition_row, found_rows, near_rows}
 use Rattle.tk_explanations.specs.Matches.{AreFirstFits, AreInOrderRows, AreLooseRows, AreStuckRows, ExplainsExactly, ExplainsInOrder, ExplainsLoosely, IsExactExplanation, IsInOrderExplanation, IsLastFit, IsLooseExplanation, after, early_rows, exact_rows, last_of}
 use Rattle.tk_explanations.specs.Rows.{AsText, rows_text}
+use Rattle.tk_explanations.specs.Statistics.{ExplainsStatistics}
 use Rattle.tk_explanations.specs.declared.rows.Row.{Row}
 use Rattle.tk_explanations.specs.declared.rows.Row.TheVariants.{Line}
 
@@ -190,3 +192,8 @@ lifecycle_rows_one r a b xs ys x y =
 
 pub one_lifecycle : (r : Recorded) → IsUnique (ExplainsLifecycle r)
 one_lifecycle r = one_text (IsLifecycleExplanation r) r (lifecycle_rows_one r)
+
+-- ---- statistics
+
+pub one_statistics : (asked : Selected) (expected : Expected) → IsUnique (ExplainsStatistics asked expected)
+one_statistics asked expected a b s t x y = (x.0 ∙ sym y.0, x.1 ∙ sym y.1)

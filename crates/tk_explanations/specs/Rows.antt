@@ -35,6 +35,7 @@ use Rattle.tk_explanations.specs.declared.rows.Row.TheVariants.{
   Counts,
   Overlap,
   Executions,
+  More,
   Sentence,
 }
 use Rattle.tk_explanations.specs.declared.rows.Writers.{Writers}
@@ -78,6 +79,7 @@ row_text r (Counts n m) = decimal n ++ codes " conditions, " ++ decimal m ++ cod
 row_text r (Overlap x y said) =
     span_text r x ++ codes " and " ++ span_text r y ++ codes " overlap" ++ writers_text said
 row_text r (Executions n) = codes "    " ++ decimal n ++ codes " executions"
+row_text r (More n) = codes "    and " ++ decimal n ++ codes " more"
 row_text r (Sentence sentence) = sentence_text r sentence
 
 -- a row as a line

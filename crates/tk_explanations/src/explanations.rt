@@ -93,6 +93,16 @@ fn put_counts<T: Target>(piece: &mut Piece, target: &mut T, conditions: usize, e
     piece.put(target, b" events");
 }
 
+fn put_more<T: Target>(piece: &mut Piece, target: &mut T, count: usize)
+    ensures { Adds (outgoing (T.contents target.old) (T.broken target.old) piece.old)
+        (outgoing (T.contents target.new) (T.broken target.new) piece.new)
+        (codes "    and " ++ decimal count ++ codes " more") }
+{
+    piece.put(target, b"    and ");
+    put_number(piece, target, count as u64);
+    piece.put(target, b" more");
+}
+
 // Adds the descriptor of an execution, and its first and its last position.
 fn put_span<T: Target>(piece: &mut Piece, target: &mut T, record: &Record, execution: Execution)
     ensures { Adds (outgoing (T.contents target.old) (T.broken target.old) piece.old)
@@ -163,11 +173,13 @@ fn put_row<T: Target>(piece: &mut Piece, target: &mut T, record: &Record, row: &
             put_overlap(piece, target, record, *first, *second, *said)
         }
         Row::Executions(number) => put_executions(piece, target, *number),
+        Row::More(count) => put_more(piece, target, *count),
         Row::Sentence(sentence) => put_sentence(piece, target, record, sentence),
     }
 }
 
-fn put_rows<T: Target>(piece: &mut Piece, target: &mut T, record: &Record, rows: &[Row])
+/// Adds the rows, a line each.
+pub(crate) fn put_rows<T: Target>(piece: &mut Piece, target: &mut T, record: &Record, rows: &[Row])
     ensures { Adds (outgoing (T.contents target.old) (T.broken target.old) piece.old)
         (outgoing (T.contents target.new) (T.broken target.new) piece.new)
         (rows_text «record».now rows.now) }

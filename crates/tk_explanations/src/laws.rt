@@ -2,11 +2,13 @@
 ghost use Rattle.std.specs.Prelude.{List};
 ghost use Rattle.tk_record.specs.Recorded.{Recorded};
 ghost use Rattle.tk_record.specs.Selections.{Selected};
+ghost use Rattle.tk_record.specs.declared.statistics.Expected.{Expected};
 ghost use Rattle.tk_query_conditions.specs.declared.conditions.Condition.{Condition};
 ghost use Rattle.tk_explanations.specs.Collisions.{ExplainsExclusive};
 ghost use Rattle.tk_explanations.specs.Laws.{IsUnique};
 ghost use Rattle.tk_explanations.specs.Lifecycles.{ExplainsLifecycle};
 ghost use Rattle.tk_explanations.specs.Lists.{ExplainsExecutions, ExplainsList};
+ghost use Rattle.tk_explanations.specs.Statistics.{ExplainsStatistics};
 ghost use Rattle.tk_explanations.specs.Matches.{ExplainsExactly, ExplainsInOrder, ExplainsLoosely};
 
 /// The same events and conditions have one explanation of an exact match.
@@ -22,6 +24,12 @@ pub fn loosely_is_unique()
 /// The same events and conditions have one explanation of a match in order.
 pub fn in_order_is_unique()
     ensures { (asked : Selected) (cs : List Condition) → IsUnique (ExplainsInOrder asked cs) }
+{}
+
+/// The same events and expectations have one explanation of statistics.
+pub fn statistics_is_unique()
+    ensures { (asked : Selected) (expected : Expected)
+        → IsUnique (ExplainsStatistics asked expected) }
 {}
 
 /// The same events have one list of lines.

@@ -18,6 +18,7 @@ mod pieces;
 mod rows;
 mod sentence_texts;
 mod sentences;
+mod statistics;
 
 pub use collisions::explain_exclusive;
 pub use exactly::explain_exactly;
@@ -27,3 +28,4 @@ pub use lifecycles::explain_lifecycle;
 pub use listed_events::explain_list;
 pub use listed_executions::explain_executions;
 pub use loosely::explain_loosely;
+pub use statistics::{MAX_COUNTED_ROWS, add_mismatch, explain_statistics};

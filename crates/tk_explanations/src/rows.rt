@@ -45,6 +45,8 @@ pub(crate) enum Row {
     Overlap(Execution, Execution, Writers),
     /// There are so many executions.
     Executions(usize),
+    /// There are so many events more.
+    More(usize),
     /// Why the record doesn't keep the lifecycle.
     Sentence(Sentence),
 }

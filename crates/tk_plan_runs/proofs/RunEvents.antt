@@ -20,7 +20,8 @@ use Rattle.tk_plan_laws.specs.Reports.{report_of_plan}
 use Rattle.tk_plan_runs.specs.declared.plan_runs.PlanRun.{PlanRun}
 use Rattle.tk_plan_runs.specs.declared.faults.ReportFault.{ReportFault}
 use Rattle.tk_plan_runs.specs.declared.faults.ReportFault.TheVariants.{Plan, Run, Device, Memory}
-use Rattle.tk_plan_runs.specs.Answers.{IsNotRun, IsPlanRun, IsRunFault, IsRunOfPlan, IsRunReport, IsReported, MayWork, OfPlan, UnitMayFail, plan_text}
+use Rattle.tk_plan_runs.specs.Answers.{IsNotRun, IsPlanRun, IsPlanText, IsRecorded, IsReported, IsRunFault}
+use Rattle.tk_plan_runs.specs.Answers.{IsRunOfPlan, IsRunRecord, IsRunReport, MayWork, OfPlan, UnitMayFail, plan_text}
 use Rattle.tk_plan_runs.specs.Faults.{fault_of_plan, fault_of_run}
 
 -- what is not out of the limits is within them
@@ -50,12 +51,24 @@ reported bytes workers old new run result of h =
       by_result (Err Device) h = ((of.report.0, of.report.1, subst (AppendsPrefix old new) text h), of.may_work)
       by_result (Err Memory) h = tt
 
--- a plan that is not run is not reported
-pub not_reported : (bytes : List ℕ) (workers : ℕ) (old new : Option (List ℕ)) (fault : ReportFault) → IsPlanRun bytes workers (Err fault) → IsReported bytes workers old new (Err fault)
-not_reported bytes workers old new (Plan f) why = why
-not_reported bytes workers old new (Run f) why = why
-not_reported bytes workers old new Device why = absurd why
-not_reported bytes workers old new Memory why = tt
+-- the record of a plan's run was written, or a prefix of its text, or nothing
+pub recorded : (bytes : List ℕ) (workers : ℕ) (old new : Option (List ℕ)) (run : PlanRun)
+    (result : Result (Unit {0}) ReportFault) → IsRunOfPlan bytes workers run
+    → IsRunRecord run.results.recorded old new result → IsRecorded bytes workers old new result
+recorded bytes workers old new run (Ok u) of h = ((run, of, h), of.may_work)
+recorded bytes workers old new run (Err (Plan f)) of h = absurd h
+recorded bytes workers old new run (Err (Run f)) of h = absurd h
+recorded bytes workers old new run (Err Device) of h = ((run, of, h), of.may_work)
+recorded bytes workers old new run (Err Memory) of h = tt
+
+-- of a plan that is not run nothing is written
+pub not_reported : (OfText : (List ℕ → Type 0) → Type 0) (bytes : List ℕ) (workers : ℕ)
+    (old new : Option (List ℕ)) (fault : ReportFault) → IsPlanRun bytes workers (Err fault)
+    → IsPlanText OfText bytes workers old new (Err fault)
+not_reported OfText bytes workers old new (Plan f) why = why
+not_reported OfText bytes workers old new (Run f) why = why
+not_reported OfText bytes workers old new Device why = absurd why
+not_reported OfText bytes workers old new Memory why = tt
 
 -- a report that is not written is so for a broken target, or for memory
 pub untouched : (r : Recorded) (old new : Option (List ℕ)) (result : Result (Unit {0}) ReportFault) (Same : Type 0) → IsRunReport r old new result

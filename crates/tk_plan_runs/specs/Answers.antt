@@ -17,6 +17,7 @@ use Rattle.tk_engine_execute.specs.declared.run_faults.RunFault.TheVariants as r
 use Rattle.tk_engine_execute.specs.declared.engines.UnitFault.{UnitFault}
 use Rattle.tk_engine_execute.specs.Engines.{MayFail}
 use Rattle.tk_engine_execute.specs.Results.{IsTallied}
+use Rattle.tk_record_text.specs.Text.{text}
 use Rattle.tk_report_text.specs.Reports.{report_of_record}
 use Rattle.tk_plan_laws.specs.Laws.{IsKept}
 use Rattle.tk_plan_laws.specs.Reports.{report_of_plan}
@@ -27,15 +28,25 @@ use Rattle.tk_plan_runs.specs.declared.plan_runs.TheConstants.{DEFAULT_CAPACITY}
 use Rattle.tk_plan_runs.specs.declared.faults.ReportFault.{ReportFault}
 use Rattle.tk_plan_runs.specs.declared.faults.ReportFault.TheVariants.{Plan, Run, Device, Memory}
 
--- What writing the report of a record answers: it was written, or a prefix of it to a broken
--- target, or memory was refused.
+-- What writing a text of a run answers: it was written, or a prefix of it to a broken target, or
+-- memory was refused.
+abbrev pub IsRunText :
+    List ℕ → Option (List ℕ) → Option (List ℕ) → Result (Unit {0}) ReportFault → Type 0
+IsRunText written old new (Ok _) = Appends old new written
+IsRunText written old new (Err (Plan f)) = ⊥
+IsRunText written old new (Err (Run f)) = ⊥
+IsRunText written old new (Err Device) = AppendsPrefix old new written
+IsRunText written old new (Err Memory) = Unit {0}
+
+-- what writing the report of a record answers
 abbrev pub IsRunReport :
     Recorded → Option (List ℕ) → Option (List ℕ) → Result (Unit {0}) ReportFault → Type 0
-IsRunReport r old new (Ok _) = Appends old new (report_of_record r)
-IsRunReport r old new (Err (Plan f)) = ⊥
-IsRunReport r old new (Err (Run f)) = ⊥
-IsRunReport r old new (Err Device) = AppendsPrefix old new (report_of_record r)
-IsRunReport r old new (Err Memory) = Unit {0}
+IsRunReport r = IsRunText (report_of_record r)
+
+-- what writing the text of a record answers
+abbrev pub IsRunRecord :
+    Recorded → Option (List ℕ) → Option (List ℕ) → Result (Unit {0}) ReportFault → Type 0
+IsRunRecord r = IsRunText (text r)
 
 -- the report of a plan that was read
 abbrev pub plan_text : Tree → List ℕ
@@ -92,13 +103,29 @@ IsPlanRun bytes workers (Err (Run f)) = IsNotRun bytes workers f
 IsPlanRun bytes workers (Err Device) = ⊥
 IsPlanRun bytes workers (Err Memory) = Unit {0}
 
--- What reporting a plan that is run by `workers` workers answers, and what was written at an Ok
--- and at a broken target.
+-- the bytes are a plan, and W holds of the text of the record of a run by `workers` workers
+abbrev pub OfRun : List ℕ → ℕ → (List ℕ → Type 0) → Type 0
+OfRun bytes workers W =
+    (run : PlanRun) × IsRunOfPlan bytes workers run × W (text run.results.recorded)
+
+-- What running a plan by `workers` workers and writing a text of it answers, and what was written at
+-- an Ok and at a broken target: W holds of the text where `OfText` does of W.
+abbrev pub IsPlanText :
+    ((List ℕ → Type 0) → Type 0) → List ℕ → ℕ → Option (List ℕ) → Option (List ℕ) →
+    Result (Unit {0}) ReportFault → Type 0
+IsPlanText OfText bytes workers old new (Ok _) = OfText (Appends old new) × MayWork workers
+IsPlanText OfText bytes workers old new (Err (Plan f)) = IsNoPlan bytes f
+IsPlanText OfText bytes workers old new (Err (Run f)) = IsNotRun bytes workers f
+IsPlanText OfText bytes workers old new (Err Device) =
+    OfText (AppendsPrefix old new) × MayWork workers
+IsPlanText OfText bytes workers old new (Err Memory) = Unit {0}
+
+-- what reporting a plan that is run by `workers` workers answers
 abbrev pub IsReported :
     List ℕ → ℕ → Option (List ℕ) → Option (List ℕ) → Result (Unit {0}) ReportFault → Type 0
-IsReported bytes workers old new (Ok _) = OfPlan bytes (Appends old new) × MayWork workers
-IsReported bytes workers old new (Err (Plan f)) = IsNoPlan bytes f
-IsReported bytes workers old new (Err (Run f)) = IsNotRun bytes workers f
-IsReported bytes workers old new (Err Device) =
-    OfPlan bytes (AppendsPrefix old new) × MayWork workers
-IsReported bytes workers old new (Err Memory) = Unit {0}
+IsReported bytes workers = IsPlanText (OfPlan bytes) bytes workers
+
+-- what recording a run of a plan by `workers` workers answers
+abbrev pub IsRecorded :
+    List ℕ → ℕ → Option (List ℕ) → Option (List ℕ) → Result (Unit {0}) ReportFault → Type 0
+IsRecorded bytes workers = IsPlanText (OfRun bytes workers) bytes workers

@@ -10,4 +10,4 @@ mod reporting;
 pub use fault_texts::ReportFaultText;
 pub use faults::ReportFault;
 pub use plan_runs::{DEFAULT_CAPACITY, PlanRun, run_plan};
-pub use reporting::{plan_report, write_report};
+pub use reporting::{plan_report, write_report, write_run_record};

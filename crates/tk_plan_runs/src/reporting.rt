@@ -1,9 +1,9 @@
-//! Writing the report of a run, and running a plan for its report.
+//! Writing the report or the record of a run, and running a plan for its report.
 ghost use Rattle.std.specs.Prelude.{◌≡◌, ◌⊎◌, true, IfErr, OnOk, OnErr, IsErrOf};
 ghost use Rattle.std.specs.Io.KnownBytes.{Appends};
 ghost use Rattle.tk_streams.specs.Stream.{AppendsPrefix};
 ghost use Rattle.tk_report_text.specs.Reports.{report_of_record};
-ghost use Rattle.tk_plan_runs.specs.Answers.{IsReported, IsRunReport};
+ghost use Rattle.tk_plan_runs.specs.Answers.{IsReported, IsRunRecord, IsRunReport};
 
 use crate::faults::ReportFault;
 use crate::plan_runs::run_plan;
@@ -11,7 +11,7 @@ use std::alloc::Global;
 use std::sync::Wait;
 use std::thread::Threads;
 use tk_engine_execute::Results;
-use tk_record_text::WriteFault;
+use tk_record_text::{WriteFault, write_record};
 use tk_report_text::write_report_of;
 use tk_streams::Target;
 
@@ -35,6 +35,27 @@ pub fn write_report<T: Target>(
         Ok(()) => Ok(()),
         Err(WriteFault::Device) => Err(ReportFault::Device),
         Err(WriteFault::Memory) => Err(ReportFault::Memory),
+    }
+}
+
+/// Writes the record of a run into `target`, as a record text.
+///
+/// # Errors
+/// `Device` where the target broke, after a prefix of the text.
+pub fn write_run_record<T: Target>(
+    alloc: Global,
+    results: &Results,
+    target: &mut T,
+) -> Result<(), ReportFault>
+    ensures answer { IsRunRecord results.now.recorded (T.contents target.old)
+        (T.contents target.new) result }
+    ensures unwritten { IsErrOf result ReportFault.Memory → target.new ≡ target.old }
+    ensures device { IsErrOf result ReportFault.Device → T.broken target.new ≡ true }
+{
+    match write_record(alloc, results.recorded(), target) {
+        Ok(()) => Ok(()),
+        // It takes no memory.
+        Err(_) => Err(ReportFault::Device),
     }
 }
 

@@ -6,7 +6,7 @@ use Rattle.testkit_questions.proofs.AnswerLemmas.{where_none, where_more}
 use Rattle.testkit_questions.proofs.answers.events_where.Goals as goal
 
 pub conditions-init : goal.conditions-init
-conditions-init c = where_none c.args.selection c.args.«record».now _ _ c.in_ok-all.ensures c.in_ok-events.ensures
+conditions-init c = where_none c.args.selection c.args.«record».now _ c.in_ok-events.ensures
 
 pub conditions-preserved : goal.conditions-preserved
 conditions-preserved c =

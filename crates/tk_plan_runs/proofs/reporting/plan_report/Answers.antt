@@ -1,6 +1,7 @@
 use Rattle.std.proofs.Common.{inr, refl}
 use Rattle.std.proofs.lemmas.Result.{err_from_is_err_and}
 use Rattle.tk_plan_runs.proofs.RunEvents.{no_device, not_reported, reported, untouched}
+use Rattle.tk_plan_runs.specs.Answers.{OfPlan}
 use Rattle.tk_plan_runs.proofs.reporting.plan_report.Goals as goal
 
 pub returns-in_err-run : goal.returns-in_err-run
@@ -8,7 +9,7 @@ returns-in_err-run g c =
     let p = err_from_is_err_and c.from_residual.result c.from_residual.ensures.1 in
     let fault = c.in_err-run.field-0.0 in
     rw (p.1, p.2) (record {
-      answer = not_reported c.args.bytes.now c.args.workers _ _ fault c.in_err-run.ensures;
+      answer = not_reported (OfPlan c.args.bytes.now) c.args.bytes.now c.args.workers _ _ fault c.in_err-run.ensures;
       unwritten = inr refl;
       device = λ e. absurd (no_device c.args.bytes.now c.args.workers fault c.in_err-run.ensures e);
     })
