@@ -1,27 +1,17 @@
 -- What clauses cite of questions, answers and explanations.
-pub use Rattle.testkit_questions.specs.Asked.{AddsAnswer, AddsPrefix, IsOfWords, IsReadInTime}
-pub use Rattle.testkit_questions.specs.Asked.{IsRefusal}
 pub use Rattle.testkit_questions.specs.Conditions.{IsConditionsFault}
-pub use Rattle.testkit_questions.specs.Explainables.{question_of}
-pub use Rattle.testkit_questions.specs.Questions.{AreConditions, IsAskedAs, IsMode, IsOverview}
-pub use Rattle.testkit_questions.specs.Requests.{IsRequestedAs}
+pub use Rattle.testkit_questions.specs.Questions.{AreConditions, IsNamed, mode_name}
 pub use Rattle.tk_explanations.specs.Collisions.{ExplainsExclusive}
 pub use Rattle.tk_explanations.specs.Explained.{IsExplained}
 pub use Rattle.tk_explanations.specs.Lifecycles.{ExplainsLifecycle}
-pub use Rattle.tk_explanations.specs.Lists.{ExplainsExecutions, ExplainsList}
 pub use Rattle.tk_explanations.specs.Matches.{ExplainsExactly, ExplainsInOrder, ExplainsLoosely}
+pub use Rattle.tk_explanations.specs.Statistics.{ExplainsStatistics}
 pub use Rattle.tk_query.specs.AnswerTexts.{ending_name, exact_yes, exclusive_yes, in_order_yes}
 pub use Rattle.tk_query.specs.AnswerTexts.{loose_yes}
-pub use Rattle.tk_query.specs.Asked.{IsFirstFit, fits}
 pub use Rattle.tk_query.specs.Exclusive.{IsExclusive}
 pub use Rattle.tk_query.specs.ExecutionSteps.{step_at}
 pub use Rattle.tk_query.specs.Executions.{AreExecutions, has_ending, has_started}
-pub use Rattle.tk_query.specs.Holds.{holds}
-pub use Rattle.tk_query.specs.InOrder.{HasNoFit, IsNextFit}
 pub use Rattle.tk_query.specs.Matches.{IsExact, IsInOrder, IsLoose}
 pub use Rattle.tk_query_conditions.specs.Answer.{IsReadAs}
 pub use Rattle.tk_query_conditions.specs.Cond.{Container, Id, OfKind, Plain, Test, With, cond_text}
 pub use Rattle.tk_query_conditions.specs.CondOf.{both, cond_of}
-pub use Rattle.tk_query_nearest.specs.Members.{lacking_text}
-pub use Rattle.tk_query_nearest.specs.Nearness.{IsNearest}
-pub use Rattle.tk_query_nearest.specs.Parts.{distance}

@@ -1,7 +1,7 @@
 -- What clauses cite of records, selections, statistics and texts.
 pub use Rattle.tk_lanes.specs.Lists.{positions}
 pub use Rattle.tk_record.specs.Entries.{desc, with_entry}
-pub use Rattle.tk_record.specs.Record.{IsRecord, IsViewOf, entry_of_view, fault_of}
+pub use Rattle.tk_record.specs.Record.{IsRecord, IsViewOf, fault_of}
 pub use Rattle.tk_record.specs.Selections.{all_of, column_test_of, events_of, filtered_by}
 pub use Rattle.tk_record.specs.Selections.{intersected, passes, positioned, positions_of}
 pub use Rattle.tk_record.specs.Selections.{selection_name, selects}
