@@ -10,7 +10,7 @@ import unittest
 from dataclasses import dataclass, field
 from typing import Callable, Dict, Sequence
 
-from fixtures import TOP, Ran, folder, parameterized, run, write
+from fixtures import TEST_CRATES, TOP, Ran, folder, parameterized, run, write
 
 HEAD = """
 import os, unittest
@@ -133,6 +133,18 @@ def told(*lines: str, status: int = 1) -> str:
     return "; ".join(f"echo '{line}'" for line in lines) + f"; exit {status}"
 
 
+OTHERS = "use x;\n\n#[test]\nfn slower() {\n    {\n    }\n}\n\n"
+SLOW_ONE = "/// It is slow.\n///\n/// So it is.\n#[test]\nfn slow(rt: HostRuntime) {\n    {\n    }\n}\n"
+"""Tests of a module, and one that is slow."""
+
+
+def name_slow(at: str, names: str = "test_runs a::b::slow\n") -> None:
+    """Names a slow test; `rt` finds only the others in each crate."""
+    write(f"{at}/gate/slow_tests", names)
+    for crate in TEST_CRATES:
+        write(f"{at}/crates/{crate}/src/a/b.rt", OTHERS + SLOW_ONE * (crate == "test_runs"))
+
+
 SECOND_FAILS = ["tests: 2", "test a ... ok", "test c ... FAILED", "    checked: stopped"]
 SLOW = ["test c ... FAILED", "    checked: no-answer: the program did not end within the time limit", "    run=no-answer"]
 NO_ANSWER = "run=no-answer proved=no"
@@ -179,6 +191,8 @@ CHECKS = [
     quick("quick", "44 passed, 0 failed", "check: nothing is proved by this run"),
     quick("a test that fails", "37 passed, 7 failed", "1 failed", tries=told(*SECOND_FAILS, "run=stopped proved=no")),
     quick("a crate with many tests", "37 passed, 70 failed", tries=told("tests: 11", "test a ... ok")),
+    quick("slow tests", "44 passed, 0 failed", "test_runs: not tried: a::b::slow, which", before=name_slow, tries=f"grep -q slower src/a/b.rt && [ $(wc -l <src/a/b.rt) = 8 ] || exit 9; {TRIED}"),
+    quick("a slow test that is none", "44 passed, 1 failed", "'test_runs a::b::fast', which names no test", before=lambda at: name_slow(at, "test_runs a::b::fast\n")),
     quick("a test without an end", "37 passed, 0 failed", "not tried: c had not", tries=told("tests: 2", "test a ... ok", *SLOW, NO_ANSWER)),
     quick("no test that ends", "30 passed, 7 failed", "nothing passed", tries=told("tests: 1", *SLOW, NO_ANSWER)),
     quick("a test of which nothing is said", "37 passed, 14 failed", "1 failed, and its status is 0", tries=told("tests: 2", "test a ... ok", status=0)),
@@ -226,7 +240,7 @@ class Check(unittest.TestCase):
     def repository(self, row: Checks) -> str:
         """Makes a clean repository in which each command is a script."""
         at = folder(self)
-        for path in ("check", ".ci/run", ".gitignore", "tools/checked.py", "gate/fixtures.py", "gate/times.py"):
+        for path in ("check", ".ci/run", ".gitignore", "tools/checked.py", "gate/fixtures.py", "gate/slow.py", "gate/times.py"):
             os.makedirs(os.path.dirname(f"{at}/{path}"), exist_ok=True)
             shutil.copy(f"{TOP}/{path}", f"{at}/{path}")
         rt = f'ci) {row.ci} ;;\nversion) echo "{KIT}"; echo more ;;\n"try --test --seconds 10") {row.tries} ;;'
@@ -234,6 +248,7 @@ class Check(unittest.TestCase):
         for path, text in scripts.items():
             write(f"{at}/{path}", f"#!/bin/sh\n{text}\n", 0o755)
         write(f"{at}/examples/two_tests.record", "a record\n")
+        write(f"{at}/gate/slow_tests", "")
         write(f"{at}/{RUN}", '"an older run"')
         for crate in os.listdir(f"{TOP}/crates"):
             os.makedirs(f"{at}/crates/{crate}", exist_ok=True)
