@@ -80,8 +80,8 @@ IsReplayFault t replays.Device = IsPartlyReplayed t
 IsReplayFault t fault =
     IfSome t.input (λ bytes. IsPlayedAs bytes (Err fault)) × IsPartlyReplayed t
 
--- Why nothing, or a part, is written of a plan that is run so. The number of workers is judged after
--- the plan.
+-- Why nothing, or a part, is written of a plan that is run so. The number of workers is judged
+-- after the plan.
 abbrev pub IsReportFault : RunOptions → Transfer → ReportFault → Type 0
 IsReportFault options t (reports.Plan fault) = IfLoaded t (λ bytes. IsNoPlan bytes fault)
 IsReportFault options t (reports.Run fault) =

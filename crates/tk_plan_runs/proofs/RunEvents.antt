@@ -20,7 +20,7 @@ use Rattle.tk_plan_laws.specs.Reports.{report_of_plan}
 use Rattle.tk_plan_runs.specs.declared.plan_runs.PlanRun.{PlanRun}
 use Rattle.tk_plan_runs.specs.declared.faults.ReportFault.{ReportFault}
 use Rattle.tk_plan_runs.specs.declared.faults.ReportFault.TheVariants.{Plan, Run, Device, Memory}
-use Rattle.tk_plan_runs.specs.Answers.{IsNotRun, IsPlanRun, IsPlanText, IsRecorded, IsReported, IsRunFault}
+use Rattle.tk_plan_runs.specs.Answers.{IsNotRun, IsPlanRun, IsPlanText, IsReported, OfRun, IsRunFault}
 use Rattle.tk_plan_runs.specs.Answers.{IsRunOfPlan, IsRunRecord, IsRunReport, MayWork, OfPlan, UnitMayFail, plan_text}
 use Rattle.tk_plan_runs.specs.Faults.{fault_of_plan, fault_of_run}
 
@@ -54,7 +54,8 @@ reported bytes workers old new run result of h =
 -- the record of a plan's run was written, or a prefix of its text, or nothing
 pub recorded : (bytes : List ℕ) (workers : ℕ) (old new : Option (List ℕ)) (run : PlanRun)
     (result : Result (Unit {0}) ReportFault) → IsRunOfPlan bytes workers run
-    → IsRunRecord run.results.recorded old new result → IsRecorded bytes workers old new result
+    → IsRunRecord run.results.recorded old new result 
+    → IsPlanText (OfRun bytes workers) bytes workers old new result
 recorded bytes workers old new run (Ok u) of h = ((run, of, h), of.may_work)
 recorded bytes workers old new run (Err (Plan f)) of h = absurd h
 recorded bytes workers old new run (Err (Run f)) of h = absurd h

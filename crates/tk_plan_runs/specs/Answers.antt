@@ -108,8 +108,8 @@ abbrev pub OfRun : List ℕ → ℕ → (List ℕ → Type 0) → Type 0
 OfRun bytes workers W =
     (run : PlanRun) × IsRunOfPlan bytes workers run × W (text run.results.recorded)
 
--- What running a plan by `workers` workers and writing a text of it answers, and what was written at
--- an Ok and at a broken target: W holds of the text where `OfText` does of W.
+-- What running a plan by `workers` workers and writing a text of it answers, and what was written
+-- at an Ok and at a broken target: W holds of the text where `OfText` does of W.
 abbrev pub IsPlanText :
     ((List ℕ → Type 0) → Type 0) → List ℕ → ℕ → Option (List ℕ) → Option (List ℕ) →
     Result (Unit {0}) ReportFault → Type 0
@@ -124,8 +124,3 @@ IsPlanText OfText bytes workers old new (Err Memory) = Unit {0}
 abbrev pub IsReported :
     List ℕ → ℕ → Option (List ℕ) → Option (List ℕ) → Result (Unit {0}) ReportFault → Type 0
 IsReported bytes workers = IsPlanText (OfPlan bytes) bytes workers
-
--- what recording a run of a plan by `workers` workers answers
-abbrev pub IsRecorded :
-    List ℕ → ℕ → Option (List ℕ) → Option (List ℕ) → Result (Unit {0}) ReportFault → Type 0
-IsRecorded bytes workers = IsPlanText (OfRun bytes workers) bytes workers

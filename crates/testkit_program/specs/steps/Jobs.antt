@@ -24,8 +24,8 @@ IsRunOutcome written old new (Ok is_yes) = (is_yes ≡ true) × IsRunText writte
 IsRunOutcome written old new (Err (faults.Report fault)) = IsRunText written old new (Err fault)
 IsRunOutcome written old new (Err _) = ⊥
 
--- What running the plan of loaded bytes and writing a text of the run answers: a yes, or why there is
--- no text. No fault of another kind is answered, so none of loading.
+-- What running the plan of loaded bytes and writing a text of the run answers: a yes, or why there
+-- is no text. No fault of another kind is answered, so none of loading.
 abbrev pub IsPlanOutcome :
     List ℕ → RunOptions → Option (List ℕ) → Option (List ℕ) → Result Bool Fault → Type 0
 IsPlanOutcome bytes options old new (Ok is_yes) =
