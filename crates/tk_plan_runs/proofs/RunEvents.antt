@@ -54,7 +54,7 @@ reported bytes workers old new run result of h =
 -- the record of a plan's run was written, or a prefix of its text, or nothing
 pub recorded : (bytes : List ℕ) (workers : ℕ) (old new : Option (List ℕ)) (run : PlanRun)
     (result : Result (Unit {0}) ReportFault) → IsRunOfPlan bytes workers run
-    → IsRunRecord run.results.recorded old new result 
+    → IsRunRecord run.results.recorded old new result
     → IsPlanText (OfRun bytes workers) bytes workers old new result
 recorded bytes workers old new run (Ok u) of h = ((run, of, h), of.may_work)
 recorded bytes workers old new run (Err (Plan f)) of h = absurd h
