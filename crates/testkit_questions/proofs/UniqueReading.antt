@@ -36,7 +36,7 @@ use Rattle.testkit_questions.proofs.WordLemmas.{name_lacks}
 heads : {A : Type 0} (x y : A) (xs ys : List A) → x ∷ xs ≡ y ∷ ys → x ≡ y
 heads x y xs ys e = cc
 
-tails : {A : Type 0} (x y : A) (xs ys : List A) → x ∷ xs ≡ y ∷ ys → xs ≡ ys
+pub tails : {A : Type 0} (x y : A) (xs ys : List A) → x ∷ xs ≡ y ∷ ys → xs ≡ ys
 tails x y xs ys e = cc
 
 -- ---- a name has one selection, and one mode
@@ -258,7 +258,7 @@ one_condition_fault : (first : ℕ) (texts : List (List ℕ)) (f g : AskFault)
     → IsConditionFault first texts f → IsConditionFault first texts g → f ≡ g
 one_condition_fault first texts f g s t (inl (i, v, bad, p)) (inl (j, w, worse, q)) =
     let both = both_faulty texts i j bad.conditions worse.conditions bad.text worse.text v w
-        bad.before worse.before bad.at worse.at bad.bad worse.bad bad.read worse.read in
+    bad.before worse.before bad.at worse.at bad.bad worse.bad bad.read worse.read in
     p ∙ condition_same (first + i) (first + j) v w (ap (λ (n : ℕ). first + n) both.0) both.1
     ∙ sym q
 one_condition_fault first texts f g s t (inl bad) (inr e) = absurd (t e)

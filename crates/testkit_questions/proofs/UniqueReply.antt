@@ -215,7 +215,7 @@ one_match_answer Loosely asked cs ds y z o p like a b =
     )
 one_match_answer InTheirOrder asked cs ds y z o p like a b =
     let e = in_order_same a.0 b.0
-        (one_in_order asked ds a.0 b.0 (in_order_too asked cs ds a.0 like a.1) b.1) in
+    (one_in_order asked ds a.0 b.0 (in_order_too asked cs ds a.0 like a.1) b.1) in
     (a.2 ∙ e.0 ∙ sym b.2, a.3 ∙ e.1 ∙ sym b.3)
 
 one_exclusive_answer : (w v x s : Condition) (r : Recorded) (y z : Bool) (o p : List ℕ)
@@ -223,7 +223,7 @@ one_exclusive_answer : (w v x s : Condition) (r : Recorded) (y z : Bool) (o p : 
     → IsExclusiveAnswer w x r y o → IsExclusiveAnswer v s r z p → (y ≡ z) × (o ≡ p)
 one_exclusive_answer w v x s r y z o p writers readers a b =
     let e = one_exclusive (all_of r) v s a.0 b.0
-        (exclusive_too (all_of r) w v x s writers readers a.0 a.1) b.1 in (
+    (exclusive_too (all_of r) w v x s writers readers a.0 a.1) b.1 in (
       a.2 ∙ ap (λ (t : Exclusive). exclusive_yes t) e ∙ sym b.2,
       a.3 ∙ ap (λ (t : Exclusive). exclusive_line t) e ∙ sym b.3,
     )

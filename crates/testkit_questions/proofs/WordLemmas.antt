@@ -79,4 +79,3 @@ bad_text f words i word text cs (several.Condition number fault) lt e is before 
     subst (λ (n : ℕ). IsConditionsFault (map f words) (several.Condition n fault)) (sym bad.0)
     (record { conditions = cs; before = before; text = text; at = text_at f words i word lt e ∙ ap (λ t. Some t) (sym is); bad = bad.1; read = bad.2 })
 bad_text f words i word text cs several.Memory lt e is before bad = tt
-

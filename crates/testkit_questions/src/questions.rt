@@ -45,7 +45,9 @@ pub enum Question {
         expected: Expected,
     },
     /// How many events there are.
-    Count { selection: Selection },
+    Count {
+        selection: Selection,
+    },
     /// Whether the events match conditions.
     Match {
         selection: Selection,
@@ -64,7 +66,9 @@ pub enum Question {
         readers: Condition,
     },
     /// The executions that the events show.
-    Executions { selection: Selection },
+    Executions {
+        selection: Selection,
+    },
     /// Whether the record keeps the lifecycle that a listener of an engine may rely on.
     Lifecycle,
     /// The report: the statistics, and the events of each id.

@@ -4,7 +4,7 @@ ghost use Rattle.tk_record.specs.Selections.{selection_name};
 ghost use Rattle.tk_query_conditions.specs.Cond.{Any, Nothing};
 ghost use Rattle.tk_query_conditions.specs.CondOf.{cond_of};
 ghost use Rattle.testkit_questions.specs.Questions.{AreConditions, IsAskedAs, IsConditionFault, IsConditionsReading, IsEnd, IsExclusiveReading, IsMatchReading, IsNoName, IsReadAfter, IsStatsReading, mode_name, question_word};
-ghost use Rattle.testkit_questions.specs.Requests.{IsExplainedAs, IsRequestedAs};
+ghost use Rattle.testkit_questions.specs.Requests.{IsExplainedAs, IsFlagged, IsRequestedAs, IsUnexplained, explain_word, reading_of};
 ghost use Rattle.testkit_questions.specs.declared.questions.QuestionName.TheVariants as names;
 
 use crate::conditions::{ConditionsFault, read_conditions};
@@ -89,11 +89,7 @@ fn read_texts(alloc: Global, words: &[String], first: usize) -> Result<Vec<Condi
 }
 
 // Reads what is expected of the statistics of the selection's events.
-fn read_expected(
-    selection: Selection,
-    words: &[String],
-    first: usize,
-) -> Result<Question, AskFault>
+fn read_expected(selection: Selection, words: &[String], first: usize) -> Result<Question, AskFault>
     requires { first + length words.now < 2 ^ 64 }
     ensures { IsStatsReading selection first (map string_bytes words.now) result }
 {
@@ -276,6 +272,35 @@ fn read_explained(alloc: Global, words: &[String]) -> Result<Question, AskFault>
     }
 }
 
+// Cuts off the first word, where it is `explain`.
+fn split_explain(words: &[String]) -> Option<&[String]>
+    ensures some { IfSome result (λ rest. map string_bytes words.now
+        ≡ explain_word ∷ map string_bytes rest.now) }
+    ensures none { IfNone result (IsUnexplained (map string_bytes words.now)) }
+{
+    let Some((word, rest)) = words.split_first() else {
+        return None;
+    };
+    match word.as_str() {
+        "explain" => Some(rest),
+        _ => None,
+    }
+}
+
+// Asks for the answer to the question that was read, with its explanation or without.
+fn request_of(reading: Result<Question, AskFault>, is_explained: bool) -> Result<Request, AskFault>
+    ensures question { reading_of result ≡ reading }
+    ensures flag { IsFlagged is_explained result }
+{
+    match reading {
+        Ok(question) => Ok(Request {
+            question,
+            is_explained,
+        }),
+        Err(fault) => Err(fault),
+    }
+}
+
 /// Reads what the words ask for: the answer to a question, or after the word `explain` the answer
 /// and its explanation.
 ///
@@ -284,16 +309,8 @@ fn read_explained(alloc: Global, words: &[String]) -> Result<Question, AskFault>
 pub fn read_request(alloc: Global, words: &[String]) -> Result<Request, AskFault>
     ensures { IsRequestedAs (map string_bytes words.now) result }
 {
-    if let [first, rest @ ..] = words {
-        if first.as_str() == "explain" {
-            return Ok(Request {
-                question: read_explained(alloc, rest)?,
-                is_explained: true,
-            });
-        }
+    match split_explain(words) {
+        Some(rest) => request_of(read_explained(alloc, rest), true),
+        None => request_of(read_question(alloc, words), false),
     }
-    Ok(Request {
-        question: read_question(alloc, words)?,
-        is_explained: false,
-    })
 }

@@ -8,8 +8,9 @@ pub returns : goal.returns
 returns c =
     let r = c.args.«record».now in
     let number = c.count-count.ensures ∙ ap (λ (s : Selected). length s.kept) c.in_ok-picked.ensures
-        ∙ kept_count (selects c.args.selection r) 0 r.entries in
+    ∙ kept_count (selects c.args.selection r) 0 r.entries in
     let text : string_bytes c.in_ok-text.text ≡ decimal c.count-count.result ++ 10 ∷ [] =
-        search rules in
-    (c.new.ensures.is_yes,
-    c.new.ensures.text ∙ text ∙ ap (λ (n : ℕ). decimal n ++ 10 ∷ []) number)
+    search rules in (
+      c.new.ensures.is_yes,
+      c.new.ensures.text ∙ text ∙ ap (λ (n : ℕ). decimal n ++ 10 ∷ []) number,
+    )
