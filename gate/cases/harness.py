@@ -19,6 +19,9 @@ from typing import BinaryIO, Callable, List, Optional, Sequence, Tuple, Union
 Bytes = Union[bytes, Callable[[], bytes]]
 """Bytes, or a function that makes them when they are needed (for large ones)."""
 
+USAGE = os.path.join(os.path.dirname(os.path.realpath(__file__)), "../../crates/testkit/usage.txt")
+"""The page of usage."""
+
 TIME_LIMIT = 600
 """How many seconds a run may take: far more than any needs, so that a slow machine fails no case."""
 
@@ -67,6 +70,14 @@ class Output(Enum):
     CUT_PIPE = "a pipe that is closed after a few bytes were read; standard input is a file"
 
 
+def with_usage(line: bytes) -> bytes:
+    """What is written on standard error with a fault line: where no command or no question is named, the page of usage stands below it."""
+    if line not in (b"testkit: bad command line\n", b"testkit: unknown question\n"):
+        return line
+    with open(USAGE, "rb") as page:
+        return line + page.read()
+
+
 @dataclass(frozen=True)
 class Case:
     """One start of the program, and what has to come of it.
@@ -96,8 +107,9 @@ class Case:
             differences.append(f"status {status}, wanted {self.status}")
         if self.standard_output in (Output.KEPT, Output.CUT_PIPE) and output != wanted:
             differences.append("output " + difference(output, wanted))
-        if self.standard_error == Output.KEPT and error != self.error:
-            differences.append("error " + difference(error, self.error))
+        line = with_usage(self.error)
+        if self.standard_error == Output.KEPT and error != line:
+            differences.append("error " + difference(error, line))
         return "; ".join(differences) or None
 
 

@@ -2,6 +2,8 @@
 //! runs a plan for its report.
 #![tactic(auto)]
 
+mod usage;
+
 use std::process::ExitCode;
 use std::sync::Wait;
 use std::thread::Threads;
@@ -9,6 +11,7 @@ use std::{env, io};
 use testkit_command_line::collect_words;
 use testkit_program::{Fault, FaultLine, exit_code, perform};
 use tk_streams::{StdSource, StdTarget};
+use usage::USAGE;
 
 /// Does what the words ask for, from standard input to standard output.
 fn run<R: Threads + Wait + Sync>(host: &HostRuntime, rt: &R) -> Result<bool, Fault> {
@@ -22,6 +25,9 @@ fn main(rt: HostRuntime) -> ExitCode {
     let outcome = run(&rt, &rt);
     if let Err(fault) = &outcome {
         let _ = rt.eprint(FaultLine(fault));
+        if fault.wants_usage() {
+            let _ = rt.eprint(USAGE);
+        }
     }
     let status = exit_code(&outcome);
     drop(outcome);

@@ -83,10 +83,12 @@ report_fault options input left bytes old new (Plan f) loaded within h =
 report_fault options input left bytes old new (Run f) loaded within h =
     of_input input bytes (λ all. (length all ≤ MAX_TEXT) × IsNotRun all options.workers f)
     (all_loaded input left bytes loaded) (within, h)
-report_fault options input left bytes old new Device loaded within h =
-    (of_input input bytes
-    (λ all. (length all ≤ MAX_TEXT) × OfOptions options all (AppendsPrefix old new))
-    (all_loaded input left bytes loaded) (within, h.0), h.1)
+report_fault options input left bytes old new Device loaded within h = (
+  of_input input bytes
+      (λ all. (length all ≤ MAX_TEXT) × OfOptions options all (AppendsPrefix old new))
+      (all_loaded input left bytes loaded) (within, h.0),
+  h.1,
+)
 report_fault options input left bytes old new Memory loaded within h = tt
 
 -- A run of the plan that a source has, where the source was loaded so.

@@ -44,3 +44,9 @@ abbrev pub status_of_outcome : Result Bool Fault → ℕ
 status_of_outcome (Ok true) = 0
 status_of_outcome (Ok false) = 1
 status_of_outcome (Err fault) = status_of fault
+
+-- whether the words name no command, or no question
+abbrev pub wants_usage : Fault → Bool
+wants_usage faults.CommandLine = true
+wants_usage (faults.Ask asks.Question) = true
+wants_usage _ = false

@@ -1,6 +1,6 @@
 //! The faults of the program, and their statuses.
 ghost use Rattle.std.specs.Prelude.{◌≡◌};
-ghost use Rattle.testkit_program.specs.Statuses.{fault_of_line, status_of};
+ghost use Rattle.testkit_program.specs.Statuses.{fault_of_line, status_of, wants_usage};
 ghost use Rattle.testkit_program.specs.declared.faults.Fault.TheVariants.{Ask, Replay, Load, Report};
 
 use testkit_command_line::CommandLineFault;
@@ -55,6 +55,13 @@ impl Fault {
             Fault::Load(fault) => load_status(fault),
             Fault::Report(fault) => report_status(fault),
         }
+    }
+
+    /// Whether the words name no command, or no question: a page of usage then helps.
+    pub fn wants_usage(&self) -> bool
+        ensures { result ≡ wants_usage self.now }
+    {
+        matches!(self, Fault::CommandLine | Fault::Ask(AskFault::Question))
     }
 }
 
