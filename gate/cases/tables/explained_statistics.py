@@ -29,7 +29,11 @@ MET = [
 
 MISSED = [
     missed("of tests, one failure too few", "tests failed=2", TWO_TESTS, OF_TESTS, "failed expected 2 actual 1", 2),
-    missed("two that are missed, in their order", "started=1 skipped=0", TWO_TESTS, TWO_TESTS_STATS, "skipped expected 0 actual 1", 3, "started expected 1 actual 2", 0, 1),
+    missed(
+        "two that are missed, in their order",
+        "started=1 skipped=0",
+        *(TWO_TESTS, TWO_TESTS_STATS, "skipped expected 0 actual 1", 3, "started expected 1 actual 2", 0, 1),
+    ),
     missed("one of two", "started=2 finished=3", TWO_TESTS, TWO_TESTS_STATS, "finished expected 3 actual 2", 2, 4),
     missed("of which no event was counted", "aborted=1", TWO_TESTS, TWO_TESTS_STATS, "aborted expected 1 actual 0"),
     missed("of a selection's events alone", "tests finished=0", TWO_TESTS, OF_TESTS, "finished expected 0 actual 1", 2),

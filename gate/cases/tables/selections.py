@@ -11,14 +11,19 @@ from tables.texts import BOTH_KINDS, EMPTY, REGISTERED_TEST, TWO_TESTS
 OF_TESTS = stats(skipped=1, started=1, finished=1, failed=1)
 """The statistics of the tests of two tests."""
 
+EVERY_TEST_STATS = stats(skipped=1, started=1, finished=4, aborted=2, failed=2, reporting=3, dynamic=1)
+
 STATS = [
-    *[answer(f"stats of/{title}, all", "ask stats all", text, stats(**{it: len(picks.get(it, ())) for it in form.STATISTICS})) for title, text, picks in SELECTED],
+    *[
+        answer(f"stats of/{title}, all", "ask stats all", text, stats(**{it: len(picks.get(it, ())) for it in form.STATISTICS}))
+        for title, text, picks in SELECTED
+    ],
     answer("stats of/two tests, tests", "ask stats tests", TWO_TESTS, OF_TESTS),
     answer("stats of/two tests, containers", "ask stats containers", TWO_TESTS, stats(started=1, finished=1, succeeded=1)),
     answer("stats of/two tests, failed", "ask stats failed", TWO_TESTS, stats(finished=1, failed=1)),
     answer("stats of/two tests, skipped", "ask stats skipped", TWO_TESTS, stats(skipped=1)),
     answer("stats of/two tests, files", "ask stats files", TWO_TESTS, stats()),
-    answer("stats of/every kind, tests", "ask stats tests", EVERY_KIND, stats(skipped=1, started=1, finished=4, aborted=2, failed=2, reporting=3, dynamic=1)),
+    answer("stats of/every kind, tests", "ask stats tests", EVERY_KIND, EVERY_TEST_STATS),
     answer("stats of/both kinds, tests", "ask stats tests", BOTH_KINDS, stats(started=1, finished=1, succeeded=1)),
     answer("stats of/both kinds, containers", "ask stats containers", BOTH_KINDS, stats(started=1, finished=1, succeeded=1)),
     answer("stats of/registered test, tests", "ask stats tests", REGISTERED_TEST, stats(started=1, dynamic=1)),
@@ -89,11 +94,17 @@ def of(name: str, words: str, text: str, *rows):
     return explained(f"of a selection, {name}", rest, text, *rows, selection=[selection])
 
 
+OF_TWO_TESTS = "1 failed 1 2 [engine:e]/[t:1]", "2 skipped 1 1 [engine:e]/[t:2]"
+
 EXPLAINED = [
     of("a test is left over", "tests exactly started", TWO_TESTS, "wrong-count", "1 conditions, 3 events", 2),
-    of("a condition is left over", "containers exactly started succeeded aborted", TWO_TESTS, "wrong-count", "3 conditions, 2 events", "#2", NONE_LEFT),
+    of("a condition is left over", "containers exactly started all() aborted", TWO_TESTS, "wrong-count", "3 conditions, 2 events", "#2", NONE_LEFT),
     of("the least that fails in its place", "tests exactly started failed succeeded", TWO_TESTS, "no 2", "#2", lacks(3, "succeeded")),
-    of("wrong count, and one that differs", "tests exactly started skipped(off)", TWO_TESTS, "wrong-count", "2 conditions, 3 events", "#1", lacks(2, "skipped(off)")),
+    of(
+        "wrong count, and one that differs",
+        "tests exactly started skipped(off)",
+        *(TWO_TESTS, "wrong-count", "2 conditions, 3 events", "#1", lacks(2, "skipped(off)")),
+    ),
     of("exactly, each its own", "containers exactly started succeeded", TWO_TESTS, "yes", "#0", 0, "#1", 4),
     of("loosely, the first of each", "tests loosely test started", TWO_TESTS, "yes", *found(1, 1)),
     of("nearest among the tests", "tests loosely succeeded", TWO_TESTS, "no 0", "#0", *(lacks(it, "succeeded") for it in (2, 1, 3))),
@@ -102,7 +113,7 @@ EXPLAINED = [
     of("in order, found", "tests in-order started failed", TWO_TESTS, "yes 1 2", *found(1, 2)),
     of("in order, too early", "tests in-order failed started", TWO_TESTS, "no 1", *found(2), "#1", early(1, 2), lacks(3, "started")),
     of("in order, none after it", "started in-order test started", TWO_TESTS, "no 1", *found(1), "#1", early(1, 1), NONE_LEFT),
-    explained("of a selection, executions of tests", "executions tests", TWO_TESTS, "1 failed 1 2 [engine:e]/[t:1]", "2 skipped 1 1 [engine:e]/[t:2]"),
+    explained("of a selection, executions of tests", "executions tests", TWO_TESTS, *OF_TWO_TESTS),
     explained("of a selection, executions of starts", "executions started", TWO_TESTS),
 ]
 
