@@ -17,9 +17,10 @@ import os
 import resource
 import subprocess
 import sys
+import threading
 import time
 from dataclasses import dataclass, fields
-from typing import Callable, List, Sequence, Tuple
+from typing import BinaryIO, Callable, Iterator, List, Optional, Sequence, Tuple
 
 import fixtures
 from fixtures import PROGRAM, TOP, WithProgram, folder, parameterized
@@ -72,6 +73,8 @@ class Row:
     """KiB that it has at least at one time: a queue of fewer places than a run asks for takes less."""
     late: int = 0
     """How many milliseconds late its threads begin: one that waits for them and doesn't sleep takes as many of processor time."""
+    piece: int = 0
+    """How many bytes a read gives it at most, by a pipe; 0 where its input is a file."""
 
     def prepare(self) -> None:
         """Limits the process of a run: one that takes twice its seconds is stopped."""
@@ -114,10 +117,9 @@ def plan_of_containers() -> bytes:
     return plan(node(',"children":[' + ",".join(below) + "]")).replace(b'"name":"n"', b'"name":"%s"' % (b"n" * 100))
 
 
-def plan_of_entries(last: str = "") -> bytes:
+def plan_of_entries(last: str = "", entry: str = '[["key","value %d"]]', count: int = 600_000) -> bytes:
     """A plan of one node with as many entries as it has room for, and a last member."""
-    entry = '[["key","value %d"]]'
-    entries = ",".join(entry % number for number in range(600_000))
+    entries = ",".join(entry % number for number in range(count))
     return plan(node(f',"entries":[{entries}]{last}'))
 
 
@@ -169,8 +171,30 @@ def tests_of_an_engine() -> bytes:
 
 
 def tests_side_by_side() -> bytes:
-    """Tests that all start before the first finishes."""
-    return record_of_tests("n", events("start"), events("finish|ok"))
+    """Tests that all start before the first finishes, after the engine."""
+    return record_of_tests("n", BEGIN, END, events("start"), events("finish|ok"))
+
+
+def roots_side_by_side() -> bytes:
+    """Roots that all start before the first finishes."""
+    nodes = "".join(f"N|T|[t:{number}]|n\n" for number in range(65_000))
+    return f"testkit-record|2\n{nodes}{events('start', keys=range(65_000))}{events('finish|ok', keys=range(65_000))}".encode()
+
+
+def registered_side_by_side() -> bytes:
+    """Registered tests that all start before the first finishes, within the engine."""
+    keys = range(65_536, 65_536 + 65_000)
+    made = "".join(f"E|1|{key}|0|dynamic|T|[engine:e]/[t:{key}]|n\n" for key in keys)
+    return f"{RECORD.replace('|T|', '|C|')}{BEGIN}{made}{events('start', keys=keys)}{events('finish|ok', keys=keys)}{END}".encode()
+
+
+def twenty_thousand_events() -> bytes:
+    return (RECORD + 10_000 * "E|1|0|7|start\nE|1|0|8|finish|ok\n").encode()
+
+
+def units_with_entries() -> bytes:
+    """A plan of 5,000 units, each with 200 entries: nearly as many events as a plan may have."""
+    return plan_of_nodes(5_000, f',"mode":"concurrent","entries":[{",".join(200 * ["[]"])}]')
 
 
 def registrations() -> bytes:
@@ -208,6 +232,13 @@ EVENTS = repeated(RECORD, "E|1|0|7|start\nE|1|0|8|finish|ok\n")
 FAILING = repeated(RECORD, "E|1|0|7|start\nE|1|0|8|finish|ok\n", "E|1|0|9|finish|fail|boom\n")
 FAILURES = repeated(RECORD, "E|1|0|7|start\nE|1|0|8|finish|ok\n", "E|1|0|9|finish|fail|boom\n" * 1_000)
 STARTS = repeated(RECORD, "E|1|0|7|start\n")
+NEVER_FINISHED = repeated(RECORD + 2 * "E|1|0|7|start\nE|1|0|8|finish|ok\n", "E|1|0|7|start\n")
+LONG_REASON = repeated(RECORD + "E|1|0|7|skip|", "x", "\n")
+SHORT_STAMPS = [repeated(RECORD, f"E|1|0|{7 * 10**17}|{tail}\n") for tail in ("start", "finish|fail|boom")]
+LONG_STAMPS = [repeated(RECORD, f"E|1|0|{2**64 - 1}|{tail}\n") for tail in ("start", "finish|fail|boom")]
+"""Entries with stamps of 18 digits, and of 20, which are read digit by digit with a check of each."""
+DYNAMIC_KEY = f"E|1|65536|0|dynamic|T|[engine:e]/[t:{'v' * 4_000}]|n\n"
+ONE_DYNAMIC_KEY = repeated(RECORD.replace("|T|", "|C|") + DYNAMIC_KEY, "E|1|65536|7|start\n")
 OVERLAPPING = repeated(
     f"{RECORD}N|T|[engine:f]|f\n",
     "E|1|0|7|start\nE|1|0|8|finish|ok\n",
@@ -217,6 +248,7 @@ REPORTS = repeated(f"{RECORD}E|1|0|7|start\n", "E|1|0|7|report\n", "E|1|0|8|fini
 
 BAD = "testkit: line 3 is bad\n"
 RARE = "ask match loosely" + 1_000 * " all(failed(boom),name(e))"
+MANY_MEMBERS = f"all({','.join(2_000 * ['failed'])})"
 OF_NO_COLUMN = "ask match loosely" + 1_000 * " any(name(x),name(e))"
 LAST_FAILS = 49 * " started" + " failed"
 TOO_EARLY = " failed(boom)" + 49 * " started"
@@ -226,7 +258,7 @@ LAST_DIFFERS = 49 * " kind(skip)" + " failed"
 def row(name: str, words: str, input: Callable[[], bytes], limit: Costs, begins: str, **how) -> Row:
     """A row of the program, whose words stand with blanks between them; a line on standard error has the status 2, and a no 1."""
     status = 2 if begins.startswith("testkit: ") else int(begins.startswith(("no ", "wrong-count")))
-    return Row(name, words.split(), input, limit, begins, status, **how)
+    return Row(name, words.split(), input, limit, begins, **{"status": status, **how})
 
 
 ROWS = [
@@ -234,9 +266,13 @@ ROWS = [
     row("record/executions", "ask executions", EVENTS, Costs(0.8, 49_400, 210, 312, 153), "0 succeeded 7 8\n"),
     row("record/exclusive", "ask exclusive test", EVENTS, Costs(0.8, 49_400, 210, 312, 2), "yes\n"),
     row("record/exclusive of 65,000 readers side by side", "ask exclusive engine test", tests_side_by_side, Costs(0.8, 49_400, 391_000, 312, 2), "yes\n"),
+    row("record/exclusive of starts that never finish", "ask exclusive test", NEVER_FINISHED, Costs(0.8, 49_400, 210, 312, 2), "yes\n"),
+    row("record/executions of tests", "ask executions tests", EVENTS, Costs(0.8, 49_400, 210, 312, 153), "0 succeeded 7 8\n"),
     row("record/list of all", "ask list all", EVENTS, Costs(0.8, 25_000, 190, 312, 442), "0 E|1|0|7|start\n1 E|1|0|8|finish|ok\n"),
     row("record/list by 100 conditions", "ask list all" + 99 * " started" + " not(started)", EVENTS, Costs(0.8, 25_000, 570, 312, 0), ""),
     row("record/lifecycle of 65,000 tests", "ask lifecycle", tests_of_an_engine, Costs(1.5, 29_300, 469_000, 285, 2), "yes\n"),
+    row("record/lifecycle of 65,000 roots side by side", "ask lifecycle", roots_side_by_side, Costs(1.5, 29_300, 469_000, 285, 2), "yes\n"),
+    row("record/lifecycle of 65,000 registered side by side", "ask lifecycle", registered_side_by_side, Costs(1.5, 34_600, 469_000, 285, 2), "yes\n"),
     row("record/lifecycle of one test", "ask lifecycle", REPORTS, Costs(1.2, 168_000, 230, 312, 2), "yes\n"),
     row("record/report of 65,000 tests", "ask report", tests_of_an_engine, Costs(1.6, 35_400, 391_000, 285, 50), "skipped 0\nstarted 65001\n"),
     row("record/100 conditions in order", "ask match in-order" + 99 * " started" + " failed", EVENTS, Costs(0.7, 25_000, 470, 312, 2), "no 99\n"),
@@ -246,8 +282,12 @@ ROWS = [
     row("record/1,000 conditions without a test of a column", OF_NO_COLUMN, EVENTS, Costs(0.8, 25_500, 9_800, 312, 2), "yes\n"),
     row("record/lifecycle of 60,000 registrations", "ask lifecycle", registrations, Costs(0.8, 34_600, 288_300, 272, 2), "yes\n"),
     row("record/report of 60,000 registrations", "ask report", registrations, Costs(0.8, 65_000, 504_400, 272, 261), "skipped 0\nstarted 60001\n"),
+    row("record/report of one dynamic key", "ask report", ONE_DYNAMIC_KEY, Costs(0.8, 64_200, 220, 312, 3), "skipped 0\nstarted "),
     row("record/report of one id", "ask report", STARTS, Costs(0.8, 64_200, 220, 312, 3), "skipped 0\nstarted 1198"),
     row("explained/loosely, the last of 50 conditions fails", "ask explain loosely" + LAST_FAILS, EVENTS, Costs(1.8, 26_000, 600, 312, 2), "no 49\n49 failed\n    1: "),
+    row("explained/loosely, 1,000 rare conditions", RARE.replace("match", "explain"), FAILING, Costs(1.3, 25_600, 11_000, 312, 30), "yes\n0 all("),
+    row("explained/loosely, 2,000 members", f"ask explain loosely {MANY_MEMBERS}", twenty_thousand_events, Costs(1.5, 2_000, 5_000, 12, 2), "no 0\n"),
+    row("explained/statistics", "ask explain stats all failed=9", FAILURES, Costs(0.8, 25_000, 200, 312, 2), "skipped 0\n", status=1),
     row("explained/in order, the last of 50 conditions fails", "ask explain in-order" + LAST_FAILS, EVENTS, Costs(1.8, 26_000, 1_000, 312, 2), "no 49\n0 started\n    0: "),
     row("explained/in order, too early", "ask explain in-order" + TOO_EARLY, FAILING, Costs(1.8, 26_000, 600, 312, 2), "no 1\n0 failed(boom)\n"),
     row("explained/exactly, the last of 50 differs", "ask explain exactly" + LAST_DIFFERS, fifty_skips, Costs(1.2, 40_000, 600, 312, 9), "no 49\n49 failed\n    49: "),
@@ -262,17 +302,21 @@ ROWS = [
     row("record/long ids", "ask count all", long_ids, Costs(1.6, 19_700, 19_300, 297, 2), "0\n"),
     row("record/registrations", "ask count dynamic", registrations, Costs(1, 28_800, 216_200, 272, 2), "60000\n"),
     row("record/reasons", "ask count skipped", repeated(RECORD, "E|1|0|7|skip|a reason of some length\n"), Costs(1.1, 55_000, 550_000, 312, 2), "4"),
-    row("long line/reason", "ask count skipped", repeated(RECORD + "E|1|0|7|skip|", "x", "\n"), Costs(0.8, 40_000, 70, 312, 2), "1\n"),
+    row("long line/reason", "ask count skipped", LONG_REASON, Costs(0.8, 40_000, 70, 312, 2), "1\n"),
     row("long line/escapes", "ask count skipped", repeated(RECORD + "E|1|0|7|skip|", "\\p", "\n"), Costs(0.9, 30_000, 90, 312, 2), "1\n"),
     row("long line/pairs", "ask count reporting", pairs, Costs(2.7, 230_000, 3_700_000, 279, 2), "1\n"),
     row("long line/number", "ask count all", repeated(RECORD + "E|", "1", "|0|7|start\n"), Costs(0.4, 20_000, 50, 312, 0), BAD),
     row("long line/id", "ask count all", repeated(RECORD + "N|T|[engine:", "e", "]|e\n"), Costs(1.4, 39_400, 80, 312, 0), BAD),
     row("long line/no line feed", "ask count all", repeated(RECORD + "E|1|0|7|skip|", "x"), Costs(0.7, 20_000, 50, 313, 0), BAD),
+    row("long line/in pieces of 1 KiB", "ask count all", repeated(RECORD + "E|1|0|7|skip|", "x"), Costs(0.7, 20_000, 50, 16_400, 0), BAD, piece=KIB),
     row("record/a bad line first", "ask count all", repeated(RECORD + "X\n", "x"), Costs(0.2, 1_000, 50, 312, 0), BAD),
     row("record/16 MiB too many", "ask count all", lambda: EVENTS() + b"\n" * SIZE, Costs(0.6, 25_000, 200, 312, 0), "testkit: input too large\n"),
     row("replay/waiting", "replay", waiting_replay, Costs(0.6, 84_000, 330, 87, 69), "testkit-record|2\n"),
     row("plan/entries", "run", plan_of_entries, Costs(3.9, 370_000, 3_700_000, 278, 3), "skipped 0\n"),
     row("plan/entries and a fault", "run", lambda: plan_of_entries(',"files":[""]'), Costs(2.8, 370_000, 3_700_000, 278, 0), "testkit: plan member /root/files/0 is bad\n"),
+    row("plan/entries of two pairs", "run", lambda: plan_of_entries(entry='[["a","%d"],["b",""]]', count=600_000), Costs(3.9, 370_000, 3_700_000, 278, 3), "skipped 0\n"),
+    row("plan/a long name", "run", lambda: plan(node("").replace('"n"', f'"{"n" * 15 * KIB * KIB}"')), Costs(0.6, 57_200, 170, 299, 3), "skipped 0\n"),
+    row("plan/units with entries", "run", units_with_entries, Costs(1.8, 111_200, 955_900, 96, 56), "skipped 0\n"),
     row("plan/a long text", "run", lambda: plan_of_a_text("x" * 16_000_000), Costs(0.6, 57_200, 170, 299, 3), "skipped 0\n"),
     row("plan/a long text with escapes", "run", lambda: plan_of_a_text("\\n" * 8_000_000), Costs(1.5, 47_900, 190, 299, 3), "skipped 0\n"),
     row("plan/nodes", "run", lambda: plan_of_nodes(65_000, ""), Costs(1.5, 102_600, 819_400, 72, 56), "skipped 0\n"),
@@ -305,6 +349,26 @@ OF_BODIES = [
 ]
 
 
+@contextlib.contextmanager
+def in_pieces(source: BinaryIO, size: int) -> Iterator[BinaryIO]:
+    """A pipe of which each read gives `size` bytes of a file at most; the file itself where that is 0."""
+    if not size:
+        yield source
+        return
+    reading, writing = os.pipe2(os.O_CLOEXEC | os.O_DIRECT)
+
+    def write() -> None:
+        with contextlib.suppress(BrokenPipeError), open(writing, "wb", buffering=0) as pipe:
+            for piece in iter(lambda: source.read(size), b""):
+                pipe.write(piece)
+
+    thread = threading.Thread(target=write)
+    thread.start()
+    with open(reading, "rb", buffering=0) as pipe:
+        yield pipe
+    thread.join()
+
+
 def costs_of(row: Row, program: str, library: str, room: str) -> Tuple[Costs, int, str]:
     """Runs a row; answers its costs, its status, and what it wrote first. The status is -1 where not one run alone was counted."""
     status = -1
@@ -316,8 +380,8 @@ def costs_of(row: Row, program: str, library: str, room: str) -> Tuple[Costs, in
             environment["THREADS_BEGIN_LATE"] = str(row.late)
         how = {"env": environment, "pass_fds": [counts.fileno()], "preexec_fn": row.prepare}
         before, begun = resource.getrusage(resource.RUSAGE_CHILDREN), time.monotonic()
-        with contextlib.suppress(subprocess.TimeoutExpired):
-            status = subprocess.run([program, *row.words], stdin=source, stdout=wrote, stderr=wrote, timeout=MOST_SECONDS, **how).returncode
+        with contextlib.suppress(subprocess.TimeoutExpired), in_pieces(source, row.piece) as given:
+            status = subprocess.run([program, *row.words], stdin=given, stdout=wrote, stderr=wrote, timeout=MOST_SECONDS, **how).returncode
         after, clock = resource.getrusage(resource.RUSAGE_CHILDREN), time.monotonic() - begun
         counts.seek(0)
         wrote.seek(0)
@@ -337,16 +401,21 @@ class Pair:
     other: str
     input: Callable[[], bytes]
     most: float
+    title: str = ""
+    other_input: Optional[Callable[[], bytes]] = None
+    """The record of the second question, where it is another one."""
 
     @property
     def name(self) -> str:
-        return f"{self.words[:40]} beside {self.other[:40]}"
+        return self.title or f"{self.words[:40]} beside {self.other[:40]}"
 
     def ratio(self, program: str, room: str) -> float:
         """The least seconds of some runs of the first, by those of the other; they run in turn, so that both meet the same load."""
-        with open(f"{room}/input", "wb") as file:
-            file.write(self.input())
-        rounds = [[seconds_of([program, *words.split()], f"{room}/input") for words in (self.words, self.other)] for _ in range(ROUNDS)]
+        starts = [(self.words, self.input, f"{room}/first"), (self.other, self.other_input or self.input, f"{room}/second")]
+        for _, data, path in starts:
+            with open(path, "wb") as file:
+                file.write(data())
+        rounds = [[seconds_of([program, *words.split()], path) for words, _, path in starts] for _ in range(ROUNDS)]
         ours, theirs = map(min, zip(*rounds))
         return ours / theirs
 
@@ -374,6 +443,10 @@ BESIDE = [
     Pair("ask explain executions", "ask executions", EVENTS, 3),
     Pair("ask explain exclusive test", "ask exclusive test", OVERLAPPING, 3),
     Pair("ask explain lifecycle", "ask lifecycle", a_test_still_runs, 3),
+    Pair(f"ask explain loosely {MANY_MEMBERS}", f"ask match loosely {MANY_MEMBERS}", twenty_thousand_events, 3, "explained 2,000 members"),
+    Pair("ask list skipped", "ask count skipped", LONG_REASON, 2),
+    Pair("ask count all", "ask count all", SHORT_STAMPS[0], 0.8, "short stamps of starts beside long ones", LONG_STAMPS[0]),
+    Pair("ask count all", "ask count all", SHORT_STAMPS[1], 0.8, "short stamps of failures beside long ones", LONG_STAMPS[1]),
 ]
 
 

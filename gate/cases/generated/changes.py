@@ -37,6 +37,8 @@ def question(numbers: Numbers) -> List[str]:
     questions = [
         ["stats"],
         ["stats", "started=1", "failed=1"],
+        ["explain", "stats", numbers.one_of(form.SELECTIONS), "started=1", "failed=1"],
+        ["executions", numbers.one_of(form.SELECTIONS)],
         ["count", numbers.one_of(form.SELECTIONS)],
         ["executions"],
         ["lifecycle"],
@@ -69,7 +71,7 @@ def changed_condition(numbers: Numbers) -> Start:
     return ["ask", "match", "loosely", "all()", text], short_record(numbers)
 
 
-PARTS = "all( any( not( test started failed failed( id( name( entry( kind( start skip ) ) ) , , a é %28 %2 % (".split()
+PARTS = "all( any( not( test started failed failed( id( name( segment( message( entry( kind( start skip ) ) ) , , a é %28 %2 % (".split()
 
 
 def loose_word(numbers: Numbers) -> str:

@@ -12,7 +12,7 @@ OTHER_TAILS = ["start", "skip|off", "report|k|v"] + FINISHES
 CONDITIONS = ["test", "container", "all()", "any()", "id(t:1)", "not(name(t2))", "any(name(t1),name(t3))", "started", "succeeded"] + [
     f"name(t{key})" for key in range(1, 5)
 ]
-ANSWERS = ["yes", "no 0 1", "no 0 2", "no 1 2", "no 0 3", "no 1 3", "no 2 3", "no 2 4"]
+ANSWERS = ["yes", "no pair", "no 0 1", "no 0 2", "no 1 2", "no 0 3", "no 1 3", "no 2 3", "no 2 4"]
 
 
 def tails(numbers: Numbers, keys: int) -> List[Tuple[int, str]]:

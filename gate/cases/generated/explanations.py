@@ -6,12 +6,12 @@ import form
 from generated import exclusives, lifecycles
 from generated.conditions import ATOMS, condition_text
 from generated.numbers import Cases, Numbers, each_is_met, modelled, series
-from generated.questions import conditions_in_turn, conditions_of_events, fitting
+from generated.questions import conditions_in_turn, conditions_of_events, events_of, fitting, selection
 from generated.recordings import record_text, short_record
 from model.conditions import write_condition
-from model.records import Record, read_record
+from model.questions import Events
 
-Words = Callable[[Numbers, Record], List[str]]
+Words = Callable[[Numbers, Events], List[str]]
 
 
 def of_atoms(numbers: Numbers) -> str:
@@ -21,26 +21,26 @@ def of_atoms(numbers: Numbers) -> str:
     return write_condition(("all", inner))
 
 
-def in_turn(numbers: Numbers, record: Record) -> List[str]:
-    """Up to four conditions, most of which hold at increasing positions, or at the same positions in another turn."""
-    words = conditions_in_turn(numbers, record)
+def in_turn(numbers: Numbers, asked: Events) -> List[str]:
+    """Up to four conditions, most of which hold of events one after the other, or of the same events in another turn."""
+    words = conditions_in_turn(numbers, asked)
     if numbers.below(3) == 0 and words:
         words += [numbers.one_of(words)]
     return words if numbers.below(4) else words + [of_atoms(numbers)]
 
 
-def of_events(numbers: Numbers, record: Record) -> List[str]:
+def of_events(numbers: Numbers, asked: Events) -> List[str]:
     """A condition for each event, of which one may be of atoms, and then some too few or too many."""
-    words = conditions_of_events(numbers, record)
+    words = conditions_of_events(numbers, asked)
     if words and numbers.below(2) == 0:
         words[numbers.below(len(words))] = of_atoms(numbers)
     extra = numbers.below(6)
     return words[:-1] if extra == 0 else words + ["test"] if extra == 1 else words
 
 
-def of_some(numbers: Numbers, record: Record) -> List[str]:
+def of_some(numbers: Numbers, asked: Events) -> List[str]:
     """Up to three conditions that mostly hold of an event, and mostly one of atoms after them."""
-    words = [fitting(numbers, record, numbers.below(1 + len(record.entries))) for _ in range(numbers.below(4))]
+    words = [fitting(numbers, asked, numbers.below(1 + len(asked.positions))) for _ in range(numbers.below(4))]
     return words if numbers.below(4) == 0 else words + [of_atoms(numbers)]
 
 
@@ -63,7 +63,8 @@ def matches(mode: str, seed: int, count: int, most: int, words_for: Words, wante
 
     def asked(numbers: Numbers) -> Tuple[List[str], bytes]:
         text = short_record(numbers) if numbers.below(2) else record_text(numbers, numbers.below(most))
-        return ["ask", "explain", mode, *words_for(numbers, read_record(text))], text
+        selected = selection(numbers)
+        return ["ask", "explain", *selected, mode, *words_for(numbers, events_of(text, selected))], text
 
     cases = series(f"generated explanation, {mode}", Numbers(seed), count, asked)
     met = [form for case in cases for form in set(forms_of(case.output.decode()))]
@@ -121,8 +122,9 @@ def of_lifecycles() -> Cases:
 def of_exclusives() -> Cases:
     """Executions of writers and readers, of which some overlap."""
     cases = series("generated explanation, exclusive", Numbers(62), 300, lambda numbers: exclusives.asked(numbers, "explain", "exclusive"))
-    met = [case.output.decode()[:2] for case in cases]
-    return cases + [each_is_met("generated explanation, exclusive", met, ["ye", "no"], 30)]
+    shown = ["yes", "no pair", "overlap\n", "the first as a writer", "the second as a writer", "both as writers"]
+    met = [part for case in cases for part in shown if part in case.output.decode()]
+    return cases + [each_is_met("generated explanation, exclusive", met, shown, 3)]
 
 
 def of_lists() -> Cases:
@@ -133,7 +135,7 @@ def of_lists() -> Cases:
         text = record_text(numbers, numbers.below(100))
         words = [numbers.one_of(("all",) * 9 + form.SELECTIONS), *(condition_text(numbers, 2) for _ in range(numbers.below(3)))]
         cases.append(modelled(f"generated explanation, list/{number}", ["ask", "explain", "list", *words], text))
-        cases.append(modelled(f"generated explanation, executions/{number}", ["ask", "explain", "executions"], text))
+        cases.append(modelled(f"generated explanation, executions/{number}", ["ask", "explain", "executions", *selection(numbers)], text))
     return cases
 
 

@@ -5,10 +5,11 @@ from typing import Callable, List, Sequence, Tuple, TypeVar, Union
 
 from harness import Case, Check
 from model.program import outcome
+from recorded import RecordedRun
 from tables.building import Word, as_words
 
 Item = TypeVar("Item")
-Cases = List[Union[Case, Check]]
+Cases = List[Union[Case, Check, RecordedRun]]
 
 
 class Numbers:

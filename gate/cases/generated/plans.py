@@ -7,6 +7,7 @@ from typing import Dict, List, Tuple
 import form
 from generated.numbers import Cases, Numbers, each_is_met, modelled, series
 from harness import Case
+from recorded import RecordedRun
 
 SEGMENTS = [["t", "1"], ["t", "2"], ["t", "10"], ["c", "a/b"], ["c", "%"], ["T", "|"], ["é", "x y"], ["t", "\n"], ["d", "[1]"]]
 TEXTS = ["", "off", "boom", "a|b", "back\\slash", "line\nfeed", "spät 🦀", "\t"]
@@ -114,15 +115,20 @@ def kind_of_outcome(case: Case) -> str:
 
 
 def runs() -> Cases:
-    """Plans, each run by one, two and as many workers as there may be."""
+    """Plans, each run by one worker for its report and for its record, and by more for one of the two."""
     numbers = Numbers(31)
     made: List[Case] = []
+    recorded: Cases = []
     for number in range(150):
-        text = plan_text(numbers, plan(numbers))
-        for workers in [1, 2, form.MAX_WORKERS]:
-            made.append(modelled(f"generated plan/{number}, {workers} workers", ["run", "--workers", str(workers)], text))
+        name, text = f"generated plan/{number}", plan_text(numbers, plan(numbers))
+        made += [modelled(name, ["run"], text), modelled(f"{name}, recorded", ["run", "--record"], text)]
+        workers = numbers.one_of([2, 3, 4, form.MAX_WORKERS])
+        if number % 2 or made[-1].status:
+            made.append(modelled(f"{name}, {workers} workers", ["run", "--workers", str(workers)], text))
+        else:
+            recorded.append(RecordedRun(f"{name}, recorded, {workers} workers", text, workers, made[-2].output))
     met = [kind_of_outcome(case) for case in made]
-    return made + [each_is_met("generated plan", met, ["done", "entry key", "plan table"], 3)]
+    return made + recorded + [each_is_met("generated plan", met, ["done", "entry key", "plan table"], 3)]
 
 
 def spoiled(numbers: Numbers) -> Tuple[List[str], bytes]:

@@ -9,38 +9,55 @@ from generated.numbers import Cases, Numbers, each_is_met, modelled, series
 from generated.recordings import record_text, short_record
 from harness import Case, Check
 from model.conditions import Condition, write_condition
-from model.questions import holds_at
+from model.questions import Events, all_events, holds_at
 from model.records import Record, read_record
 
 SIZES = [0, 1, 2, 63, 64, 65, 127, 128, 129, 255, 256, 257, 300]
 
 
 def selections() -> Cases:
-    """Each selection and the statistics of records of up to 300 events."""
+    """Each selection, and the statistics of all events and of those of a selection, of records of up to 300 events."""
     numbers = Numbers(7)
     cases: Cases = []
     for size in SIZES:
         text = record_text(numbers, size)
         cases.append(modelled(f"generated stats/{size} events", ["ask", "stats"], text))
+        cases.append(modelled(f"generated stats/{size} events of a selection", ["ask", "stats", numbers.one_of(form.SELECTIONS)], text))
         for name in form.SELECTIONS:
             cases.append(modelled(f"generated count/{size} events, {name}", ["ask", "count", name], text))
     return cases
 
 
-def expected(numbers: Numbers) -> Tuple[List[str], bytes]:
-    """Some expected numbers, of which about half are met."""
-    text = record_text(numbers, numbers.below(40))
-    lines = modelled("", ["ask", "stats"], text).output.decode().split("\n")
+def selection(numbers: Numbers) -> List[str]:
+    """Mostly none; else one, mostly of tests or containers, whose executions are whole."""
+    names = ("tests", "tests", "containers", "containers") + form.SELECTIONS
+    return [numbers.one_of(names)] if numbers.below(3) == 0 else []
+
+
+def expected(numbers: Numbers, most: int) -> Tuple[List[str], bytes]:
+    """Some expected numbers of a record of up to `most` events, of which about half are met."""
+    text = record_text(numbers, numbers.below(most))
+    asked = ["stats", *selection(numbers)]
+    lines = modelled("", ["ask", *asked], text).output.decode().split("\n")
     words = {}
     for line in numbers.some_of(lines[:-1], 5):
         name, count = line.split(" ")
         words[name] = f"{name}={int(count) + max(0, numbers.below(4) - 2)}"
-    return ["ask", "stats", *words.values()], text
+    return [*asked, *words.values()], text
 
 
 def expectations() -> Cases:
-    cases = series("generated expectations", Numbers(11), 60, expected)
-    return cases + [each_is_met("generated expectations", [str(case.status) for case in cases], ["0", "1"], 15)]
+    """Expectations, and as many that are explained."""
+    numbers = Numbers(11)
+    cases: Cases = []
+    for number in range(60):
+        words, text = expected(numbers, 40)
+        cases.append(modelled(f"generated expectations/{number}", ["ask", *words], text))
+        words, text = expected(numbers, 300)
+        cases.append(modelled(f"generated expectations/{number}, explained", ["ask", "explain", *words], text))
+    shown = [part for case in cases for part in ("\n    ", "    and ") if part in case.output.decode()]
+    cases.append(each_is_met("generated expectations, explained", shown, ["\n    ", "    and "], 5))
+    return cases + [each_is_met("generated expectations", [str(case.status) for case in cases[:-1]], ["0", "1"], 15)]
 
 
 def where_it_holds(name: str, asked: Condition, text: bytes, record: Record) -> Case:
@@ -96,34 +113,39 @@ def deep_conditions() -> Cases:
     return cases + [each_is_met("generated condition", met, ["deep"], 100)]
 
 
-def fitting(numbers: Numbers, record: Record, position: int) -> str:
-    """The text of a condition that mostly holds of the event at a position."""
-    asked = condition(numbers, 2)
+def fitting(numbers: Numbers, asked: Events, number: int) -> str:
+    """The text of a condition that mostly holds of an event, by its number among those asked."""
+    made = condition(numbers, 2)
     for _ in range(numbers.below(12)):
-        if position < len(record.entries) and holds_at(record, asked, position):
+        if number < len(asked.positions) and holds_at(asked.record, made, asked.positions[number]):
             break
-        asked = condition(numbers, 2)
-    return write_condition(asked)
+        made = condition(numbers, 2)
+    return write_condition(made)
 
 
-def conditions_in_turn(numbers: Numbers, record: Record) -> List[str]:
-    """Up to four conditions, most of which hold at increasing positions."""
-    return [fitting(numbers, record, 2 * step + numbers.below(2)) for step in range(numbers.below(5))]
+def events_of(text: bytes, selected: List[str]) -> Events:
+    """The events of a record text that a selection picks; all where there is none."""
+    return all_events(read_record(text)).pick((selected + ["all"])[0])
 
 
-def conditions_of_events(numbers: Numbers, record: Record) -> List[str]:
+def conditions_in_turn(numbers: Numbers, asked: Events) -> List[str]:
+    """Up to four conditions, most of which hold of events one after the other."""
+    return [fitting(numbers, asked, 2 * step + numbers.below(2)) for step in range(numbers.below(5))]
+
+
+def conditions_of_events(numbers: Numbers, asked: Events) -> List[str]:
     """A condition for each event; every fourth time any number of conditions."""
     if numbers.below(4) == 0:
         return [write_condition(condition(numbers, 2)) for _ in range(numbers.below(5))]
-    return [fitting(numbers, record, position) for position in range(len(record.entries))]
+    return [fitting(numbers, asked, number) for number in range(len(asked.positions))]
 
 
 def matches(mode: str, seed: int, conditions_for, answers: List[str]) -> Cases:
     """Three hundred matches of records of at most eight events."""
 
     def asked(numbers: Numbers) -> Tuple[List[str], bytes]:
-        text = short_record(numbers)
-        return ["ask", "match", mode, *conditions_for(numbers, read_record(text))], text
+        text, selected = short_record(numbers), selection(numbers)
+        return ["ask", "match", *selected, mode, *conditions_for(numbers, events_of(text, selected))], text
 
     cases = series(f"generated {mode}", Numbers(seed), 300, asked)
     met = [kind_of_answer(case.output.decode()) for case in cases]
@@ -154,7 +176,8 @@ def executions() -> Cases:
     numbers = Numbers(8)
     texts = [short_record(numbers) for _ in range(300)]
     texts += [record_text(numbers, 100, nodes) for nodes in range(1, 7) for _ in range(4)]
-    cases: Cases = [modelled(f"generated executions/{number}", ["ask", "executions"], text) for number, text in enumerate(texts)]
+    words = [["ask", "executions", *selection(numbers)] for _ in texts]
+    cases: Cases = [modelled(f"generated executions/{number}", *it) for number, it in enumerate(zip(words, texts))]
     met = [line.split()[1] for case in cases for line in case.output.decode().split("\n")[:-1]]
     return cases + [each_is_met("generated executions", met, ["skipped", "aborted", "succeeded", "failed"], 30)]
 

@@ -46,11 +46,11 @@ def line_of(text: str, conditions: Sequence[str], row: Row) -> str:
     return f"    {position}: {event_of(text, position)}{note}"
 
 
-def explained(name: str, words: Union[str, Sequence[str]], text: str, *rows: Row):
-    """The program explains its answer by these rows, of which the first is the answer."""
+def explained(name: str, words: Union[str, Sequence[str]], text: str, *rows: Row, selection: Sequence[str] = ()):
+    """The program explains its answer by these rows, of which the first is the answer; a selection stands before the other words."""
     asked = words.split(" ") if isinstance(words, str) else words
     make = no if rows and rows[0].startswith(("no ", "wrong-count")) else answer
-    return make(f"explain/{name}", ["ask", "explain", *asked], text, "".join(f"{line_of(text, asked[1:], row)}\n" for row in rows))
+    return make(f"explain/{name}", ["ask", "explain", *selection, *asked], text, "".join(f"{line_of(text, asked[1:], row)}\n" for row in rows))
 
 
 def listed(name: str, words: str, text: str, *positions: int):

@@ -120,6 +120,10 @@ STARTED_TWO = (lacks(3, "started"), lacks(7, "name(two)"), lacks(0, "started, na
 """The events that come nearest to a start of the second test."""
 
 
+SECOND_STARTED = (lacks(3, "started"), lacks(7, "segment(t,2)"), lacks(1, "segment(t,2), started"))
+"""The events that come nearest to a start of the second test, by its segment."""
+
+
 def near(name: str, condition: str, *rows: Row, text: str = ENDS):
     """No event meets a condition, and these come nearest; a position alone lacks the whole condition."""
     shown = [lacks(row, condition) if isinstance(row, int) else row for row in rows]
@@ -151,10 +155,11 @@ LOOSELY = [
     near("any() is one part", "all(any(),succeeded)", lacks(0, "any()"), lacks(1, "any(), succeeded"), lacks(2, "any(), succeeded")),
     near("any(any()) is one part", "any(all(failed,any()),all(any(any()),started))", 1, 2, 7),
     near("any(..) within not(..) is none", "not(any(test,skipped(x)))", 0, 1, 2),
-    near("a message that doesn't contain the text", "all(message(x),aborted)", lacks(3, "message(x)"), *(lacks(it, "message(x), aborted") for it in (0, 1))),
+    near("a message that doesn't contain the text", "message(x)", 0, 1, 2),
+    near("a message beside an end", "all(message(x),aborted)", lacks(3, "message(x)"), *(lacks(it, "message(x), aborted") for it in (0, 1))),
     near("a segment is its own part", "segment(t,x)", 0, 1, 2),
-    near("a segment beside a start", "all(segment(t,2),started)", lacks(3, "started"), lacks(7, "segment(t,2)"), lacks(0, "segment(t,2), started")),
-    near("a report with one of two keys", "all(entry(k,w,l,v),not(kind(skip)))", lacks(6, "entry(k,w,l,v)"), *(lacks(it, "entry(k,w,l,v)") for it in (0, 1))),
+    near("a segment beside a start", "all(segment(t,2),started,not(succeeded))", *SECOND_STARTED),
+    near("a report with one of two keys", "all(entry(k,w,l,v),not(kind(skip)))", *(lacks(it, "entry(k,w,l,v)") for it in (6, 0, 1))),
     near("not(..) is its own part", "not(any(test,skipped(off for now)))", 0, 1, 2),
     near("an ending is two parts", "all(aborted,name(one))", lacks(0, "aborted"), lacks(1, "aborted"), lacks(2, "aborted")),
     near("a start is one part", "all(started,name(two))", *STARTED_TWO),

@@ -81,6 +81,7 @@ MANY_EVENTS = [
     no("300,000 events/loosely, all fail", "ask match loosely" + " failed(x)" * 100, many_events, "no 0\n"),
     answer("300,000 events/in-order, one a round", "ask match in-order" + " skipped(off)" * 100, many_events, increasing(6, 5)),
     answer("300,000 events/in-order, each event", "ask match in-order" + " test" * 100, many_events, increasing(1, 0)),
+    answer("300,000 events/in-order, of a selection", "ask match skipped in-order" + " all()" * 100, many_events, increasing(6, 5)),
     no("300,000 events/in-order, the last fails", "ask match in-order" + " skipped(off)" * 99 + " aborted", many_events, "no 99\n"),
     no("300,000 events/in-order, the first fails", "ask match in-order" + " aborted" * 100, many_events, "no 0\n"),
 ] + [answer(f"300,000 events/count {name}", f"ask count {name}", many_events, f"{MANY_NUMBERS.get(name, 0)}\n") for name in form.SELECTIONS]
@@ -98,10 +99,18 @@ def finishes(lacking: str, *positions: int) -> List[str]:
     return [f"    {it}: E|{tails[it % 6].format(it)}   does not hold: {lacking}" for it in positions]
 
 
+COUNTED_SKIPS = "".join(f'    {at}: E|3|3|{at}|skip|off   [engine:e]/[t:3] "t3"\n' for at in range(5, 125, 6))
+
 EXPLAINED = [
     answer(
         "300,000 events/explained list by 100 conditions",
         *("ask explain list skipped" + " not(started)" * 100, many_events, many_explained_skips),
+    ),
+    no(
+        "300,000 events/explained statistics",
+        "ask explain stats skipped skipped=0",
+        many_events,
+        stats(skipped=ROUNDS) + f"mismatch skipped expected 0 actual {ROUNDS}\n" + COUNTED_SKIPS + f"    and {ROUNDS - 20} more\n",
     ),
     answer("300,000 events/explained executions", "ask explain executions", many_events, many_explained_executions),
     no(

@@ -1,0 +1,32 @@
+"""Runs whose record is read again, by the program and by the plain model."""
+
+from dataclasses import dataclass
+from typing import Optional
+
+from harness import Case, start
+from model.program import outcome
+
+
+@dataclass(frozen=True)
+class RecordedRun:
+    """`run --record` of a plan by some workers. The record is not known but its answers are: the plan's report, and a kept lifecycle."""
+
+    name: str
+    plan: bytes
+    workers: int
+    report: bytes
+
+    def run(self, program: str) -> Optional[str]:
+        """What differs, or None where the case passes."""
+        words = [b"run", b"--record", b"--workers", str(self.workers).encode()]
+        status, record, error = start(Case(self.name, words, self.plan), program)
+        if status != 0 or error:
+            return f"status {status}, error {error!r}"
+        for question, answer in ((b"report", self.report), (b"lifecycle", b"yes\n")):
+            modelled = outcome([b"ask", question], record)
+            if (modelled.output, modelled.error) != (answer, b""):
+                return f"the model answers {modelled!r} to {question!r} of {record!r}"
+            fault = Case(self.name, [b"ask", question], record, answer).run(program)
+            if fault:
+                return f"{question!r} of {record!r}: {fault}"
+        return None
