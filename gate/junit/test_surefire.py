@@ -1,13 +1,18 @@
-"""Tests of the listener in a build: Debian's Surefire, offline, with two processes that it uses for several classes each."""
+"""Tests of the listener in a build: Debian's Surefire, offline, with processes of its own, one for each class, and in Maven's process."""
 
 import glob
 import os
+import re
 import shutil
+import tempfile
 import unittest
+from collections import Counter
+from dataclasses import dataclass
 
 import fixtures
 import java
 from cases import read
+from fixtures import parameterized
 from records import HEADER, entries
 
 REPOSITORY = "/usr/share/maven-repo"
@@ -22,6 +27,26 @@ class {0}Test {{
 }}
 """
 
+@dataclass(frozen=True)
+class Setting:
+    """A setting of Surefire, how often its goal runs, and the names of the records that have to be there but for their digits."""
+
+    name: str
+    forks: int
+    is_reused: str
+    runs: int
+    path: str
+    records: Counter
+
+
+DOCUMENTED = "run-%p-%n.record"
+SETTINGS = [
+    Setting("two processes that are used again", 2, "true", 1, DOCUMENTED, Counter({"run-#-#.record": 2})),
+    Setting("a process for each class", 1, "false", 1, DOCUMENTED, Counter({"run-#-#.record": len(CLASSES)})),
+    Setting("two executions in Maven's process", 0, "true", 2, DOCUMENTED, Counter({"run-#-#.record": 2})),
+    Setting("two executions in Maven's process at one path", 0, "true", 2, "run.record", Counter(["run.record", "run.#.record"])),
+]
+
 POM = """<project xmlns="http://maven.apache.org/POM/4.0.0">
   <modelVersion>4.0.0</modelVersion><groupId>demo</groupId><artifactId>demo</artifactId><version>1</version>
   <dependencies>
@@ -33,9 +58,13 @@ POM = """<project xmlns="http://maven.apache.org/POM/4.0.0">
   <build><plugins><plugin>
     <groupId>org.apache.maven.plugins</groupId><artifactId>maven-surefire-plugin</artifactId><version>{surefire}</version>
     <configuration>
-      <forkCount>2</forkCount><reuseForks>true</reuseForks><testFailureIgnore>true</testFailureIgnore>
+      <forkCount>{forks}</forkCount><reuseForks>{is_reused}</reuseForks><testFailureIgnore>true</testFailureIgnore>
 {lines}
     </configuration>
+    <executions>
+      <execution><id>0</id></execution>
+      <execution><id>1</id><configuration><reportNameSuffix>again</reportNameSuffix></configuration></execution>
+    </executions>
   </plugin></plugins></build>
 </project>
 """
@@ -60,38 +89,49 @@ def lines_of_document():
 class OfSurefire(unittest.TestCase):
     """A build with the lines that docs/JUNIT.md shows, which name the folder of the listener here."""
 
-    def test_build(self):
-        top = os.path.realpath(fixtures.folder(self))
-        classes = java.compiled(f"{top}/classes", with_tests=False)
-        java.with_service(classes, f"{top}/listener")
-        os.makedirs(f"{top}/target/test-classes")
+    @classmethod
+    def setUpClass(cls):
+        super().setUpClass()
+        cls.room = tempfile.TemporaryDirectory(prefix="surefire-")
+        cls.top = os.path.realpath(cls.room.name)
+        cls.addClassCleanup(cls.room.cleanup)
+        java.with_service(java.compiled(f"{cls.top}/classes", with_tests=False), f"{cls.top}/listener")
+        os.makedirs(f"{cls.top}/target/test-classes")
         for name in CLASSES:
-            with open(f"{top}/{name}Test.java", "w", encoding="utf-8") as file:
-                file.write(TEST.format(name))
-        java.Classes(f"{top}/target/test-classes").compile(glob.glob(f"{top}/*.java"))
+            fixtures.write(f"{cls.top}/{name}Test.java", TEST.format(name))
+        java.Classes(f"{cls.top}/target/test-classes").compile(glob.glob(f"{cls.top}/*.java"))
+        # (Maven writes beside what it reads)
+        shutil.copytree(REPOSITORY, f"{cls.top}/repository", copy_function=os.symlink)
+
+    @parameterized(SETTINGS)
+    def test_build(self, setting):
+        surefire = version_of("org/apache/maven/plugins/maven-surefire-plugin")
         versions = {
             "jupiter": version_of("org/junit/jupiter/junit-jupiter-engine"),
             "launcher": version_of("org/junit/platform/junit-platform-launcher"),
-            "surefire": version_of("org/apache/maven/plugins/maven-surefire-plugin"),
+            "surefire": surefire,
         }
-        lines = lines_of_document().replace("/usr/share/java/testkit-listener.jar", f"{top}/listener")
-        with open(f"{top}/pom.xml", "w", encoding="utf-8") as file:
-            file.write(POM.format(lines=lines, **versions))
-        # (Maven writes beside what it reads)
-        shutil.copytree(REPOSITORY, f"{top}/repository", copy_function=os.symlink)
-        words = ["mvn", "-B", "-o", f"-Dmaven.repo.local={top}/repository", f"{PLUGIN}:{versions['surefire']}:test"]
-        ran = fixtures.run(words, seconds=java.SECONDS, cwd=top)
-        self.assertEqual(ran.status, 0, ran.output.decode(errors="replace"))
-        self.assertIn(f"Tests run: {2 * len(CLASSES)}, Failures: 0, Errors: {len(CLASSES)}", ran.output.decode(errors="replace"))
-        records = glob.glob(f"{top}/target/run-*-*.record")
-        self.assertEqual(len({os.path.basename(it).split("-")[1] for it in records}), 2, records)
-        endings = []
-        for record in records:
-            lines = read(record).split("\n")
-            self.assertEqual(lines[0], HEADER)
-            statics = [line for line in lines if line.startswith("N|")]
-            for key in [key for key, line in enumerate(statics) if "/[method:" in line]:
-                start, end = [it.tail for it in entries(lines) if it.key == key]
-                self.assertEqual(start, "start")
-                endings.append(end)
-        self.assertEqual(sorted(endings), sorted([f"finish|fail|boom {name}" for name in CLASSES] + ["finish|ok"] * len(CLASSES)))
+        lines = lines_of_document().replace("/usr/share/java/testkit-listener.jar", f"{self.top}/listener").replace(DOCUMENTED, setting.path)
+        fixtures.write(f"{self.top}/pom.xml", POM.format(lines=lines, forks=setting.forks, is_reused=setting.is_reused, **versions))
+        for record in glob.glob(f"{self.top}/target/*.record"):
+            os.remove(record)
+        words = ["mvn", "-B", "-o", f"-Dmaven.repo.local={self.top}/repository"]
+        ran = fixtures.run([*words, *(f"{PLUGIN}:{surefire}:test@{run}" for run in range(setting.runs))], seconds=java.SECONDS, cwd=self.top)
+        said = ran.output.decode(errors="replace")
+        self.assertEqual(ran.status, 0, said)
+        self.assertEqual(said.count(f"Tests run: {2 * len(CLASSES)}, Failures: 0, Errors: {len(CLASSES)}"), setting.runs, said)
+        records = glob.glob(f"{self.top}/target/*.record")
+        self.assertEqual(Counter(re.sub("[0-9]+", "#", os.path.basename(it)) for it in records), setting.records)
+        endings = Counter(ending for record in records for ending in self.endings_of(record))
+        wanted = Counter({"finish|ok": len(CLASSES), **{f"finish|fail|boom {name}": 1 for name in CLASSES}})
+        self.assertEqual(endings, Counter({ending: setting.runs * number for ending, number in wanted.items()}))
+
+    def endings_of(self, record):
+        """How each test of a record ended, which has to have started before."""
+        lines = read(record).split("\n")
+        self.assertEqual(lines[0], HEADER)
+        statics = [line for line in lines if line.startswith("N|")]
+        for key in [key for key, line in enumerate(statics) if "/[method:" in line]:
+            start, end = [it.tail for it in entries(lines) if it.key == key]
+            self.assertEqual(start, "start")
+            yield end

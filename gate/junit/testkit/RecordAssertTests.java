@@ -259,7 +259,8 @@ class RecordAssertTests {
         program("echo yes");
         RecordAssert.assertThat(results((calls, root) -> calls.skip(root, "off"))).keepsLifecycle().matchesLoosely("x");
         List<String> lines = Files.readAllLines(folder.resolve("program.input"));
-        assertEquals(Arrays.asList("testkit-record|2", "N|C|[engine:e]|engine", "N|T|[engine:e]/[t:1]|one", "E|1|0|0|skip|off"), lines);
+        assertEquals(Arrays.asList("testkit-record|2", "N|C|[engine:e]|engine", "N|T|[engine:e]/[t:1]|one"), lines.subList(0, 3));
+        assertTrue(lines.get(3).matches("E[|]1[|]0[|][0-9]{16}[|]skip[|]off") && lines.size() == 4, lines.get(3));
     }
 
     /** (The records of results that are not refused go when the process ends, which {@code test_assert.py} sees.) */
@@ -288,7 +289,11 @@ class RecordAssertTests {
 
     @Test
     void resultsWhoseRecordIsNotWholeAreRefused() {
-        EngineExecutionResults tooLong = results((calls, root) -> calls.report(root, "k", String.join("", Collections.nCopies(17 << 20, "x"))));
+        EngineExecutionResults tooLong = results((calls, root) -> {
+            for (int i = 0; i < 300; i++) {
+                calls.report(root, "k", String.join("", Collections.nCopies(60_000, "x")));
+            }
+        });
         assertThrows(IllegalStateException.class, () -> RecordAssert.assertThat(tooLong));
     }
 
