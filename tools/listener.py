@@ -10,7 +10,7 @@ import zipfile
 from typing import Dict
 
 SOURCES = "examples/junit"
-LISTENER = ("RecordListener", "RecordFile", "ResultsWriter", "RecordAssert")
+LISTENER = ("RecordListener", "RecordFile", "ResultsWriter", "RecordAssert", "RecordSource", "ResultsAssert")
 """What the jar has: the listener, what writes the results of EngineTestKit, and the assertions of a record."""
 SERVICE = "META-INF/services/org.junit.platform.launcher.TestExecutionListener"
 JAR = "testkit-listener.jar"

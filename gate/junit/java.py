@@ -18,7 +18,7 @@ NAMES_OF_JARS = (
 )
 JARS = [f"{LIBRARY}/{name}.jar" for name in NAMES_OF_JARS]
 EXAMPLES, HERE = f"{fixtures.TOP}/examples/junit", os.path.dirname(os.path.realpath(__file__))
-LISTENER = ("RecordListener", "RecordFile", "ResultsWriter", "RecordAssert")
+LISTENER = ("RecordListener", "RecordFile", "ResultsWriter", "RecordAssert", "RecordSource", "ResultsAssert")
 """What others use; it has to compile as Java 8."""
 
 KIT = os.environ.get("KIT", "")

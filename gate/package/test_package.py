@@ -160,7 +160,7 @@ class Made(unittest.TestCase):
         heads = ["META-INF/MANIFEST.MF", "META-INF/LICENSE", "META-INF/services/org.junit.platform.launcher.TestExecutionListener"]
         self.assertEqual(names, heads + sorted(names[3:]))
         self.assertEqual(forms, {(3, 0o100644, zipfile.ZIP_STORED, (1980, 1, 1, 0, 0, 0))})
-        self.assertEqual({re.sub(r"(\$\w+)?\.class$", "", name) for name in names[3:]}, {f"testkit/{it}" for it in ("RecordListener", "RecordFile", "ResultsWriter", "RecordAssert")})
+        self.assertEqual({re.sub(r"(\$\w+)?\.class$", "", name) for name in names[3:]}, {f"testkit/{it}" for it in ("RecordListener", "RecordFile", "ResultsWriter", "RecordAssert", "RecordSource", "ResultsAssert")})
         self.assertEqual({found[name][4:8] for name in names[3:]}, {b"\0\0\0\x34"}, "Java 8")
         wanted = f"Manifest-Version: 1.0\r\nImplementation-Title: testkit\r\nImplementation-Version: {VERSION}\r\n\r\n".encode()
         self.assertEqual([found[it] for it in heads], [wanted, read(self.of.path("LICENSE")), b"testkit.RecordListener\n"])
