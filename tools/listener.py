@@ -61,7 +61,7 @@ def make_jar(files: Dict[str, bytes]) -> bytes:
     Its entries have no times of their own, and aren't compressed: others may compress to other bytes.
     """
     version = files["VERSION"].decode().strip()
-    manifest = ("Manifest-Version: 1.0", "Implementation-Title: testkit", f"Implementation-Version: {version}", "", "")
+    manifest = ("Manifest-Version: 1.0", "Automatic-Module-Name: testkit", "Implementation-Title: testkit", f"Implementation-Version: {version}", "", "")
     entries = {
         "META-INF/MANIFEST.MF": "\r\n".join(manifest).encode(),
         "META-INF/LICENSE": files["LICENSE"],

@@ -8,6 +8,7 @@ import tempfile
 import unittest
 from collections import Counter
 from dataclasses import dataclass
+from importlib.machinery import SourceFileLoader
 
 import fixtures
 import java
@@ -49,7 +50,9 @@ SETTINGS = [
 
 POM = """<project xmlns="http://maven.apache.org/POM/4.0.0">
   <modelVersion>4.0.0</modelVersion><groupId>demo</groupId><artifactId>demo</artifactId><version>1</version>
+{repositories}
   <dependencies>
+{dependency}
     <dependency><groupId>org.junit.jupiter</groupId><artifactId>junit-jupiter-engine</artifactId><version>{jupiter}</version></dependency>
     <dependency>
       <groupId>org.junit.platform</groupId><artifactId>junit-platform-launcher</artifactId><version>{launcher}</version>
@@ -59,7 +62,7 @@ POM = """<project xmlns="http://maven.apache.org/POM/4.0.0">
     <groupId>org.apache.maven.plugins</groupId><artifactId>maven-surefire-plugin</artifactId><version>{surefire}</version>
     <configuration>
       <forkCount>{forks}</forkCount><reuseForks>{is_reused}</reuseForks><testFailureIgnore>true</testFailureIgnore>
-{lines}
+{systemPropertyVariables}
     </configuration>
     <executions>
       <execution><id>0</id></execution>
@@ -70,24 +73,37 @@ POM = """<project xmlns="http://maven.apache.org/POM/4.0.0">
 """
 
 
+def read_bytes(path):
+    with open(path, "rb") as file:
+        return file.read()
+
+
 def version_of(name):
     """The version of an artifact in Debian's repository, if it is there."""
     found = [it for it in os.listdir(f"{REPOSITORY}/{name}") if it[0].isdigit()] if os.path.isdir(f"{REPOSITORY}/{name}") else []
     return max(found, key=lambda it: [int(part) for part in it.split(".")], default="")
 
 
-def lines_of_document():
-    """The lines of a pom that docs/JUNIT.md shows."""
-    lines = read(f"{fixtures.TOP}/docs/JUNIT.md").split("\n")
-    begin, end = lines.index("    <additionalClasspathElements>"), lines.index("    </systemPropertyVariables>")
-    return "\n".join(lines[begin : end + 1])
+def lines_of_document(element):
+    """An element of a pom as docs/JUNIT.md shows it."""
+    found = re.search(rf"^    <{element}>.*?</{element}>$", read(f"{fixtures.TOP}/docs/JUNIT.md"), re.MULTILINE | re.DOTALL)
+    return found[0]
+
+
+def write_repository(jar, folder):
+    """Writes the Maven repository with a jar as `tools/package` does."""
+    package = SourceFileLoader("package", f"{fixtures.TOP}/tools/package").load_module()
+    for name, member in package.in_maven(jar, read(f"{fixtures.TOP}/VERSION").strip()).items():
+        os.makedirs(os.path.dirname(f"{folder}/{name}"), exist_ok=True)
+        with open(f"{folder}/{name}", "wb") as file:
+            file.write(member.data)
 
 
 @java.needs_junit
 @fixtures.needs("mvn")
 @unittest.skipUnless(os.path.isdir(f"{REPOSITORY}/org/apache/maven/surefire/surefire-junit-platform"), "no libsurefire-java")
 class OfSurefire(unittest.TestCase):
-    """A build with the lines that docs/JUNIT.md shows, which name the folder of the listener here."""
+    """A build with the lines that docs/JUNIT.md shows, but for the folder of the Maven repository."""
 
     @classmethod
     def setUpClass(cls):
@@ -96,6 +112,7 @@ class OfSurefire(unittest.TestCase):
         cls.top = os.path.realpath(cls.room.name)
         cls.addClassCleanup(cls.room.cleanup)
         java.with_service(java.compiled(f"{cls.top}/classes", with_tests=False), f"{cls.top}/listener")
+        write_repository(read_bytes(shutil.make_archive(f"{cls.top}/listener", "zip", f"{cls.top}/listener")), cls.top)
         os.makedirs(f"{cls.top}/target/test-classes")
         for name in CLASSES:
             fixtures.write(f"{cls.top}/{name}Test.java", TEST.format(name))
@@ -111,11 +128,12 @@ class OfSurefire(unittest.TestCase):
             "launcher": version_of("org/junit/platform/junit-platform-launcher"),
             "surefire": surefire,
         }
-        lines = lines_of_document().replace("/usr/share/java/testkit-listener.jar", f"{self.top}/listener").replace(DOCUMENTED, setting.path)
-        fixtures.write(f"{self.top}/pom.xml", POM.format(lines=lines, forks=setting.forks, is_reused=setting.is_reused, **versions))
+        lines = {it: lines_of_document(it) for it in ("repositories", "dependency", "systemPropertyVariables")}
+        text = POM.format(forks=setting.forks, is_reused=setting.is_reused, **lines, **versions)
+        fixtures.write(f"{self.top}/pom.xml", text.replace("/usr/share/testkit/maven", f"{self.top}/maven").replace(DOCUMENTED, setting.path))
         for record in glob.glob(f"{self.top}/target/*.record"):
             os.remove(record)
-        words = ["mvn", "-B", "-o", f"-Dmaven.repo.local={self.top}/repository"]
+        words = ["mvn", "-B", "-o", f"-Dmaven.repo.local={self.top}/repository", "-Daether.offline.protocols=file"]
         ran = fixtures.run([*words, *(f"{PLUGIN}:{surefire}:test@{run}" for run in range(setting.runs))], seconds=java.SECONDS, cwd=self.top)
         said = ran.output.decode(errors="replace")
         self.assertEqual(ran.status, 0, said)

@@ -20,6 +20,8 @@ INSIDE = f"testkit-{VERSION}"
 TAR, DEB, JAR = f"{INSIDE}-x86_64-linux.tar.gz", f"testkit_{VERSION}_amd64.deb", "testkit-listener.jar"
 TOOLS = {"asking.py", "timeline", "timeline.py", "timeline.css", "timeline.html", "timeline.js"}
 EXPLAIN = "usr/bin/testkit-explain"
+MAVEN = f"maven/testkit/testkit-listener/{VERSION}/testkit-listener-{VERSION}"
+IN_MAVEN = [f"{MAVEN}.{kind}{sum}" for kind in ("jar", "pom") for sum in ("", ".md5", ".sha1")]
 DOCUMENTS = "usr/share/doc/testkit"
 JUNIT = ("junit-platform-commons", "junit-platform-engine", "junit-platform-launcher", "opentest4j", "apiguardian-api")
 CONSOLE = "/usr/share/java/junit-platform-console-standalone.jar"
@@ -75,7 +77,7 @@ class Made(unittest.TestCase):
 
     def test_archive(self):
         """It has the files of the repository with fixed owners, times and modes, sorted, and no name and no time of its own."""
-        self.assertEqual(files_below(self.tar), sorted([*self.packed, "PROVED-WITH", "testkit", *([JAR] if HAS_JAVA else [])]))
+        self.assertEqual(files_below(self.tar), sorted([*self.packed, "PROVED-WITH", "testkit", *([JAR, *IN_MAVEN] if HAS_JAVA else [])]))
         self.assertEqual([it for it in self.packed if read(f"{self.tar}/{it}") != read(self.of.path(it))], [])
         self.assertEqual(read(f"{self.tar}/testkit"), read(self.of.path(BUILT)))
         names = [it.name for it in self.in_tar]
@@ -96,6 +98,8 @@ class Made(unittest.TestCase):
         places = {"LICENSE": f"{DOCUMENTS}/copyright", "docs/testkit.1": "usr/share/man/man1/testkit.1.gz", JAR: f"usr/share/java/{JAR}"}
         if name.startswith("tools/") or name == "testkit":
             return f"usr/lib/testkit/{name}"
+        if name.startswith("maven/"):
+            return f"usr/share/testkit/{name}"
         return places.get(name) or f"{DOCUMENTS}/{name[5:] if name.startswith('docs/') else name}"
 
     def test_files_in_debian(self):
@@ -162,8 +166,19 @@ class Made(unittest.TestCase):
         self.assertEqual(forms, {(3, 0o100644, zipfile.ZIP_STORED, (1980, 1, 1, 0, 0, 0))})
         self.assertEqual({re.sub(r"(\$\w+)?\.class$", "", name) for name in names[3:]}, {f"testkit/{it}" for it in ("RecordListener", "RecordFile", "ResultsWriter", "RecordAssert", "RecordSource", "ResultsAssert")})
         self.assertEqual({found[name][4:8] for name in names[3:]}, {b"\0\0\0\x34"}, "Java 8")
-        wanted = f"Manifest-Version: 1.0\r\nImplementation-Title: testkit\r\nImplementation-Version: {VERSION}\r\n\r\n".encode()
+        wanted = f"Manifest-Version: 1.0\r\nAutomatic-Module-Name: testkit\r\nImplementation-Title: testkit\r\nImplementation-Version: {VERSION}\r\n\r\n".encode()
         self.assertEqual([found[it] for it in heads], [wanted, read(self.of.path("LICENSE")), b"testkit.RecordListener\n"])
+
+    @unittest.skipUnless(HAS_JAVA, "no javac")
+    def test_maven(self):
+        """The same jar stands in a repository of Maven, with its coordinates, and with sums, as those who download it check."""
+        self.assertEqual(read(f"{self.tar}/{MAVEN}.jar"), read(f"{self.tar}/{JAR}"))
+        coordinates = re.findall(r"<(groupId|artifactId|version)>(.*)</", read(f"{self.tar}/{MAVEN}.pom").decode())
+        self.assertEqual(coordinates, [("groupId", "testkit"), ("artifactId", "testkit-listener"), ("version", VERSION)])
+        for name in IN_MAVEN[::3]:
+            data = read(f"{self.tar}/{name}")
+            sums = [hashlib.md5(data).hexdigest(), hashlib.sha1(data).hexdigest()]
+            self.assertEqual([read(f"{self.tar}/{name}.{kind}").decode() for kind in ("md5", "sha1")], sums, name)
 
     @unittest.skipUnless(HAS_JAVA and os.path.exists(CONSOLE), "no javac")
     def test_jar_in_the_console(self):
