@@ -18,7 +18,9 @@ from repository import BUILT, MOMENT, RUN, Repository, read
 VERSION = read(f"{TOP}/VERSION").decode().strip()
 INSIDE = f"testkit-{VERSION}"
 TAR, DEB, JAR = f"{INSIDE}-x86_64-linux.tar.gz", f"testkit_{VERSION}_amd64.deb", "testkit-listener.jar"
-TOOLS = {"asking.py", "timeline", "timeline.py", "timeline.css", "timeline.html", "timeline.js"}
+TOOLS = {"asking.py", "trace", "timeline", "timeline.py", "timeline.css", "timeline.html", "timeline.js"}
+COMMANDS = ("timeline", "trace")
+"""The tools of which Debian's package makes commands."""
 EXPLAIN = "usr/bin/testkit-explain"
 MAVEN = f"maven/testkit/testkit-listener/{VERSION}/testkit-listener-{VERSION}"
 IN_MAVEN = [f"{MAVEN}.{kind}{sum}" for kind in ("jar", "pom") for sum in ("", ".md5", ".sha1")]
@@ -104,7 +106,8 @@ class Made(unittest.TestCase):
 
     def test_files_in_debian(self):
         """It has the files of the archive in other places, links, and a command."""
-        links = ["usr/bin/testkit", "usr/bin/testkit-timeline", *(f"usr/share/man/man1/testkit-{it}.1.gz" for it in ("explain", "timeline"))]
+        links = ["usr/bin/testkit", *(f"usr/bin/testkit-{it}" for it in COMMANDS)]
+        links += [f"usr/share/man/man1/testkit-{it}.1.gz" for it in ("explain", *COMMANDS)]
         names = files_below(self.tar)
         self.assertEqual(files_below(self.deb), sorted([*map(self.place, names), *links, EXPLAIN]))
         self.assertEqual([it for it in links if not os.path.islink(f"{self.deb}/{it}") or not os.path.exists(f"{self.deb}/{it}")], [])
@@ -145,6 +148,8 @@ class Made(unittest.TestCase):
             self.assertEqual(run([program, "ask", "count", "all"], record).output, b"5\n")
             drawn = run([f"{tools}timeline"], record, env={"PATH": os.environ["PATH"]})
             self.assertTrue(drawn.output.startswith(b"<!doctype html>") and b"[engine:e]/[t:1]" in drawn.output, drawn.error)
+            traced = run([f"{tools}trace"], record, env={"PATH": os.environ["PATH"]})
+            self.assertTrue(traced.output.startswith(b'{"traceEvents":[') and b"[engine:e]/[t:1]" in traced.output, traced.error)
         record = read(f"{self.tar}/examples/two_tests.record")
         explained = run([f"{self.deb}/{EXPLAIN}", "list", "failed"], record, env={"PATH": f"{self.deb}/usr/bin:{os.environ['PATH']}"})
         self.assertEqual(explained.output, b'2 E|1|1|2|finish|fail|boom   [engine:e]/[t:1] "one"\n', explained.error)
