@@ -18,8 +18,8 @@ from repository import BUILT, MOMENT, RUN, Repository, read
 VERSION = read(f"{TOP}/VERSION").decode().strip()
 INSIDE = f"testkit-{VERSION}"
 TAR, DEB, JAR = f"{INSIDE}-x86_64-linux.tar.gz", f"testkit_{VERSION}_amd64.deb", "testkit-listener.jar"
-TOOLS = {"asking.py", "trace", "timeline", "timeline.py", "timeline.css", "timeline.html", "timeline.js"}
-COMMANDS = ("timeline", "trace")
+TOOLS = {"asking.py", "from-open-test-reporting", "trace", "timeline", "timeline.py", "timeline.css", "timeline.html", "timeline.js"}
+COMMANDS = ("from-open-test-reporting", "timeline", "trace")
 """The tools of which Debian's package makes commands."""
 EXPLAIN = "usr/bin/testkit-explain"
 MAVEN = f"maven/testkit/testkit-listener/{VERSION}/testkit-listener-{VERSION}"
@@ -150,6 +150,8 @@ class Made(unittest.TestCase):
             self.assertTrue(drawn.output.startswith(b"<!doctype html>") and b"[engine:e]/[t:1]" in drawn.output, drawn.error)
             traced = run([f"{tools}trace"], record, env={"PATH": os.environ["PATH"]})
             self.assertTrue(traced.output.startswith(b'{"traceEvents":[') and b"[engine:e]/[t:1]" in traced.output, traced.error)
+            made = run([f"{tools}from-open-test-reporting"], read(f"{TOP}/gate/junit/open-test-reporting.xml"), env={"PATH": os.environ["PATH"]})
+            self.assertEqual(made.output, read(f"{TOP}/gate/junit/open-test-reporting.record"), made.error)
         record = read(f"{self.tar}/examples/two_tests.record")
         explained = run([f"{self.deb}/{EXPLAIN}", "list", "failed"], record, env={"PATH": f"{self.deb}/usr/bin:{os.environ['PATH']}"})
         self.assertEqual(explained.output, b'2 E|1|1|2|finish|fail|boom   [engine:e]/[t:1] "one"\n', explained.error)
