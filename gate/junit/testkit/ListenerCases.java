@@ -7,6 +7,7 @@ import java.io.IOException;
 import java.io.OutputStream;
 import java.io.PrintStream;
 import java.io.UncheckedIOException;
+import java.lang.reflect.Method;
 import java.net.URL;
 import java.net.URLClassLoader;
 import java.nio.file.Files;
@@ -69,11 +70,6 @@ public class ListenerCases {
     private static final String[] TEXTS = {"a\nb\n", "a\tb\rc\u0000d", "a|b\\c\\p\\n", "%41 %+[x]:/", "Я 日本語 \uD83D\uDE00", "\uDE00\uD83D x",
         "\uFFFD\u2028\u0085\uFEFF"};
 
-    /** A case with its path and its facts. */
-    private interface Case {
-        void run(Room room) throws Exception;
-    }
-
     /** Where a case leaves what it made. */
     private static class Room {
 
@@ -88,6 +84,11 @@ public class ListenerCases {
         /** Returns the path of the case's record. */
         String path() {
             return folder + File.separator + name + ".record";
+        }
+
+        /** Returns one more where the case passes a limit that another one reaches. */
+        int atLimit(int limit) {
+            return name.startsWith("too-many-") ? limit + 1 : limit;
         }
 
         void fact(String word, Object value) {
@@ -178,58 +179,6 @@ public class ListenerCases {
         }
     }
 
-    private static final Map<String, Case> CASES = new LinkedHashMap<>();
-
-    static {
-        CASES.put("kinds", ListenerCases::kinds);
-        CASES.put("texts", ListenerCases::texts);
-        CASES.put("endings", ListenerCases::endings);
-        CASES.put("entries", ListenerCases::entries);
-        CASES.put("ids", ListenerCases::ids);
-        CASES.put("registrations", ListenerCases::registrations);
-        CASES.put("threads", ListenerCases::threads);
-        CASES.put("crowd", ListenerCases::crowd);
-        CASES.put("forwarded-errors", ListenerCases::forwardedErrors);
-        CASES.put("engines", ListenerCases::engines);
-        CASES.put("parameters", ListenerCases::parameters);
-        CASES.put("unknown-stamps", ListenerCases::unknownStamps);
-        CASES.put("no-path", ListenerCases::noPath);
-        CASES.put("process-number", ListenerCases::processNumber);
-        CASES.put("bad-paths", ListenerCases::badPaths);
-        CASES.put("earlier-records", ListenerCases::earlierRecords);
-        CASES.put("two-class-loaders", ListenerCases::twoClassLoaders);
-        CASES.put("lost-records", ListenerCases::lostRecords);
-        CASES.put("times", ListenerCases::times);
-        CASES.put("falling-clock", ListenerCases::fallingClock);
-        CASES.put("failing-clock", ListenerCases::failingClock);
-        CASES.put("refused-messages", ListenerCases::refusedMessages);
-        CASES.put("two-runs", ListenerCases::twoRuns);
-        CASES.put("numbered-runs", ListenerCases::numberedRuns);
-        CASES.put("deleted-record", ListenerCases::deletedRecord);
-        CASES.put("names-without-endings", ListenerCases::namesWithoutEndings);
-        CASES.put("runs-at-once", ListenerCases::runsAtOnce);
-        CASES.put("tags", ListenerCases::tags);
-        CASES.put("verbose", ListenerCases::verbose);
-        CASES.put("run-in-run", ListenerCases::runInRun);
-        CASES.put("same-listener-in-run", ListenerCases::sameListenerInRun);
-        CASES.put("dropped", ListenerCases::dropped);
-        CASES.put("unregistered", ListenerCases::unregistered);
-        CASES.put("outside-of-runs", ListenerCases::outsideOfRuns);
-        CASES.put("most-static", room -> manyStatic(room, MAX_DESCRIPTORS));
-        CASES.put("too-many-static", room -> manyStatic(room, MAX_DESCRIPTORS + 1));
-        CASES.put("most-registered", room -> manyRegistered(room, MAX_DESCRIPTORS));
-        CASES.put("too-many-registered", room -> manyRegistered(room, MAX_DESCRIPTORS + 1));
-        CASES.put("most-segments", ListenerCases::manySegments);
-        CASES.put("long-texts", ListenerCases::longTexts);
-        CASES.put("most-bytes", room -> manyBytes(room, MAX_TEXT_BYTES));
-        CASES.put("too-many-bytes", room -> manyBytes(room, MAX_TEXT_BYTES + 1));
-        CASES.put("too-many-static-bytes", ListenerCases::manyStaticBytes);
-        CASES.put("full-disk", ListenerCases::fullDisk);
-        CASES.put("full-at-once", ListenerCases::fullDisk);
-        CASES.put("held", ListenerCases::held);
-        CASES.put("other-process", ListenerCases::otherProcess);
-    }
-
     private ListenerCases() {
     }
 
@@ -239,7 +188,14 @@ public class ListenerCases {
         LogManager.getLogManager().reset();
         for (int i = 1; i < arguments.length; i++) {
             Room room = new Room(arguments[0], arguments[i]);
-            run(arguments[0], arguments[i], () -> CASES.get(room.name).run(room));
+            // (the method has the name in one word; a limit is reached, or is passed, in one method)
+            String name = room.name.replaceFirst("^(most|too-many)-", "many-").replace("full-at-once", "full-disk");
+            StringBuilder method = new StringBuilder();
+            for (String word : name.split("-")) {
+                method.append(method.length() == 0 ? word : word.substring(0, 1).toUpperCase() + word.substring(1));
+            }
+            Method found = ListenerCases.class.getDeclaredMethod(method.toString(), Room.class);
+            run(arguments[0], arguments[i], () -> found.invoke(null, room));
         }
     }
 
@@ -579,14 +535,6 @@ public class ListenerCases {
         }
     }
 
-    private static void engines(Room room) {
-        RecordListener listener = new RecordListener(room.path());
-        TestEngine first = new ScriptedEngine("e", "first", ListenerCases::oneTest, ListenerCases::playOneTest);
-        TestEngine second = new ScriptedEngine("b", "second", ListenerCases::oneTest, ListenerCases::playOneTest);
-        launch(listener, Collections.emptyMap(), first, second);
-        room.fact("whole", listener.isWhole());
-    }
-
     private static Map<String, String> parameters(String... words) {
         Map<String, String> found = new LinkedHashMap<>();
         for (int i = 0; i < words.length; i += 2) {
@@ -908,20 +856,6 @@ public class ListenerCases {
         room.fact("whole", listener.isWhole());
     }
 
-    /** What JUnit's launcher doesn't hand on: events of ids that nobody registered. */
-    private static void dropped(Room room) {
-        record(room, ListenerCases::oneTest, (calls, root) -> {
-            calls.start(root);
-            Node unknown = root.add("t", "2", "two", Type.TEST);
-            calls.start(unknown);
-            calls.report(unknown, "k", "v");
-            calls.succeed(unknown);
-            calls.skip(unknown, "never");
-            calls.play(root.child(0));
-            calls.succeed(root);
-        });
-    }
-
     /** A listener that is told of an id that nobody registered, as JUnit's launcher never does. */
     private static void unregistered(Room room) {
         RecordListener listener = new RecordListener(room.path());
@@ -950,7 +884,8 @@ public class ListenerCases {
         room.fact("whole", listener.isWhole());
     }
 
-    private static void manyStatic(Room room, int count) {
+    private static void manyStatic(Room room) {
+        int count = room.atLimit(MAX_DESCRIPTORS);
         record(room, root -> {
             for (int i = 1; i < count; i++) {
                 root.add("t", "" + i, "t" + i, Type.TEST);
@@ -962,11 +897,11 @@ public class ListenerCases {
         });
     }
 
-    private static void manyRegistered(Room room, int count) {
+    private static void manyRegistered(Room room) {
         record(room, ListenerCases::oneTest, (calls, root) -> {
             calls.start(root);
             calls.onThread(() -> calls.register(root, "other", "other", Type.TEST));
-            for (int i = 0; i < count; i++) {
+            for (int i = 0; i < room.atLimit(MAX_DESCRIPTORS); i++) {
                 calls.register(root, "" + i, "d" + i, Type.TEST);
             }
             calls.onThread(() -> calls.register(root, "third", "third", Type.TEST));
@@ -974,12 +909,12 @@ public class ListenerCases {
     }
 
     /** Two entries after which the text has so many bytes, and a finish. */
-    private static void manyBytes(Room room, int bytes) {
+    private static void manyBytes(Room room) {
         RecordListener listener = new RecordListener(room.path());
         launch(listener, parameters("testkit.stamps", "positions"), new ScriptedEngine("e", "engine", ListenerCases::oneTest, (calls, root) -> {
             calls.start(root);
             reportBytes(calls, root, 10 * MIB);
-            reportBytes(calls, root, bytes - (int) Files.size(Paths.get(room.path())) - "E|1|0|2|report\n".length());
+            reportBytes(calls, root, room.atLimit(MAX_TEXT_BYTES) - (int) Files.size(Paths.get(room.path())) - "E|1|0|2|report\n".length());
             calls.succeed(root);
         }));
         room.fact("whole", listener.isWhole());
