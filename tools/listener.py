@@ -10,7 +10,7 @@ import zipfile
 from typing import Dict
 
 SOURCES = "examples/junit"
-LISTENER = ("RecordListener", "ResultsWriter", "RecordAssert")
+LISTENER = ("RecordListener", "RecordFile", "ResultsWriter", "RecordAssert", "RecordSource", "ResultsAssert")
 """What the jar has: the listener, what writes the results of EngineTestKit, and the assertions of a record."""
 SERVICE = "META-INF/services/org.junit.platform.launcher.TestExecutionListener"
 JAR = "testkit-listener.jar"
@@ -61,7 +61,7 @@ def make_jar(files: Dict[str, bytes]) -> bytes:
     Its entries have no times of their own, and aren't compressed: others may compress to other bytes.
     """
     version = files["VERSION"].decode().strip()
-    manifest = ("Manifest-Version: 1.0", "Implementation-Title: testkit", f"Implementation-Version: {version}", "", "")
+    manifest = ("Manifest-Version: 1.0", "Automatic-Module-Name: testkit", "Implementation-Title: testkit", f"Implementation-Version: {version}", "", "")
     entries = {
         "META-INF/MANIFEST.MF": "\r\n".join(manifest).encode(),
         "META-INF/LICENSE": files["LICENSE"],

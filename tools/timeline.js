@@ -38,8 +38,8 @@ const chart = element("chart");
 function executionOf(row, number) {
   const it = { number, isFound: true };
   data.columns.forEach((column, place) => { it[column] = row[place]; });
-  const [type, id, name, isDynamic] = data.descriptors[it.descriptor];
-  return Object.assign(it, { type, id, name, isDynamic });
+  const [type, id, name, isDynamic, locks] = data.descriptors[it.descriptor];
+  return Object.assign(it, { type, id, name, isDynamic, locks });
 }
 
 const executions = data.executions.map(executionOf);
@@ -122,7 +122,20 @@ function durationText(it) {
 
 function workerText(it) {
   const isOther = it.worker_of_end !== null && it.worker_of_end !== it.worker;
-  return isOther ? `${it.worker}, and ${it.worker_of_end} finished it` : String(it.worker);
+  const workers = isOther ? `${it.worker}, and ${it.worker_of_end} finished it` : String(it.worker);
+  return data.records.length > 1 ? `${workers}, of ${data.records[rows[it.row].lane.record]}` : workers;
+}
+
+const laneText = (lane) => `${data.records.length > 1 ? `${lane.record + 1}: ` : ""}worker ${lane.worker}`;
+
+// The class and the method of a test, as its id has them; the last segment of another id.
+function sourceText(id) {
+  const segments = id.split("/").map((it) => it.slice(1, -1).split(":"));
+  const classes = segments.filter(([tag]) => tag === "class" || tag === "nested-class").map(([, value]) => value.split(".").pop());
+  const method = segments.find(([tag]) => ["method", "test-template", "test-factory"].includes(tag));
+  if (!classes.length) return segments[segments.length - 1].join(":");
+  const inner = segments[segments.length - 1][1].startsWith("#") ? ` ${segments[segments.length - 1][1]}` : "";
+  return classes.join(".") + (method ? `.${method[1].split("(")[0]}${inner}` : "");
 }
 
 const isTest = (it) => it.type !== "C" && it.ending !== "skipped";
@@ -130,9 +143,18 @@ const isTest = (it) => it.type !== "C" && it.ending !== "skipped";
 // The tests that ran at some time of a test, each with its worker.
 function besideText(it) {
   const found = inOrder.filter((other) => other !== it && isTest(other) && other.begin < it.end && it.begin < other.end);
-  const lines = found.slice(0, MOST_BESIDE).map((other) => `worker ${other.worker}: ${other.name || other.id}`);
+  const lines = found.slice(0, MOST_BESIDE).map((other) => `${laneText(rows[other.row].lane)}: ${other.name || other.id}`);
   if (found.length > MOST_BESIDE) lines.push(`and ${counted(found.length - MOST_BESIDE, "other")}`);
   return lines.join("\n") || "none";
+}
+
+// What is said of an execution that was chosen, and not of each that is pointed at.
+function furtherTexts(it) {
+  const found = isTest(it) ? [["beside it", besideText(it)]] : [];
+  if (it.locks.length) found.push(["locks", it.locks.map((lock) => `${lock.slice(2)} (${lock[0] === "R" ? "read" : "write"})`).join("\n")]);
+  const entries = it.entries.map((pairs) => pairs.map((text, at) => (at % 2 ? `= ${text}` : text)).join(" "));
+  if (entries.length) found.push(["entries", entries.join("\n")]);
+  return found;
 }
 
 // Terms and texts that describe an execution.
@@ -209,7 +231,7 @@ function drawLanes() {
     context.fillRect(0, bottom + LANE_GAP / 2 - 1, state.width, 1);
     context.fillStyle = state.colors.text;
     context.textAlign = "left";
-    context.fillText(`worker ${lane.worker}`, 14, Math.min(Math.max(top, AXIS) + ROW / 2, bottom - ROW / 2));
+    context.fillText(laneText(lane), 14, Math.min(Math.max(top, AXIS) + ROW / 2, bottom - ROW / 2));
   }
 }
 
@@ -402,7 +424,7 @@ function point(it, x, y) {
 function select(it) {
   state.selected = it;
   state.gap = null;
-  if (it) describe(element("details"), it, MOST_IN_DETAILS, isTest(it) ? [["beside it", besideText(it)]] : []);
+  if (it) describe(element("details"), it, MOST_IN_DETAILS, furtherTexts(it));
   else element("details").replaceChildren(help);
   ask();
 }
@@ -487,6 +509,7 @@ function fillList(list, listed, act) {
     const it = executions[number];
     const made = document.createElement("li");
     const parts = [["length", lengthText(BigInt(length))], [`swatch ${it.ending}`, ""], ["name", visible(cut(it.name, MOST_IN_TIP))]];
+    parts.push(["source", visible(cut(sourceText(it.id), MOST_IN_TIP))]);
     button(made, () => act(it, length), ...parts).title = visible(cut(it.id, MOST_IN_TIP));
     list.append(made);
   }
@@ -504,8 +527,12 @@ function fillLists() {
 }
 
 function fillHeader() {
+  const tests = executions.filter((it) => it.type !== "C");
   const parts = [counted(executions.length, "execution"), counted(data.lanes.length, "worker"), counted(data.events, "event")];
-  element("summary").textContent = `${parts.join(", ")}; ${counted(data.not_run, "descriptor")} without an execution`;
+  const results = `${counted(tests.length, "test")}, ${tests.filter((it) => it.ending === "failed").length.toLocaleString("en")} failed`;
+  const records = data.records.length > 1 ? `; ${data.records.map((name, number) => `${number + 1}: ${name}`).join(", ")}` : "";
+  element("summary").textContent =
+    `${results}; ${parts.join(", ")}; ${counted(data.not_run, "descriptor")} without an execution${visible(cut(records, MOST_IN_TIP))}`;
   element("note").hidden = data.times;
   element("note").textContent =
     "Positions in the record stand for stamps: the stamps are no times, since all are equal, or one is below an earlier one of its worker "

@@ -1,4 +1,6 @@
-"""Draws a run as a page: `tools/timeline [--unit UNIT] < RECORD > run.html`.
+"""Draws runs as a page: `tools/timeline [--unit UNIT] < RECORD > run.html`, or `tools/timeline [--unit UNIT] RECORD .. > run.html`.
+
+Several records lie beside each other on one axis, as those of the processes of a build; each has lanes of its own.
 
 UNIT is what a stamp counts, as `microseconds` of the listener for JUnit; without it durations are numbers of stamps. Stamps are times where
 two of them differ, none falls in a worker, and no execution's last stamp is below its first. Else positions in the record stand for them,
@@ -9,7 +11,7 @@ The page needs nothing from outside and may fetch nothing. It has a lane for eac
 to the next mark of its key or the end of the record. An execution of a container is a frame round those below it that its own worker ran
 within it. A gap is the time from a worker's event to the start or skip that is its next event, while no test of this worker runs.
 
-Where the program refuses the record, its line and its status are handed on, and no page is written. The status is 2 after bad words, and
+Where the program refuses a record, its line and its status are handed on, and no page is written. The status is 2 after bad words, and
 70, with one line on standard error, where the script itself fails.
 """
 
@@ -35,6 +37,8 @@ from asking import Failed, ask, not_an_answer, run_script
 UNITS = {"nanoseconds": 1, "microseconds": 1_000, "milliseconds": 1_000_000, "seconds": 1_000_000_000}
 """The units of stamps, in nanoseconds."""
 
+TYPES = {"C": "container", "T": "test", "B": "container and test"}
+
 MOST_LISTED = 50
 """How many executions and gaps the page lists."""
 
@@ -42,8 +46,11 @@ UNFINISHED = "unfinished"
 ENDINGS = {"ok": "succeeded", "abort": "aborted", "fail": "failed"}
 """The endings of a finish by the word of its tail."""
 
-COLUMNS = "descriptor ending worker worker_of_end first last start stop message begin end row height".split()
+COLUMNS = "descriptor ending worker worker_of_end first last start stop message entries begin end row height".split()
 """What the page has of each execution: positions, stamps less the least one as texts, since they may have 64 bits, and where it is drawn."""
+
+NUMBERS = 1 << 32
+"""How many keys, and more than how many workers, a record has: those of several records differ by multiples of it."""
 
 ESCAPES = {ord("<"): "\\u003c", ord(">"): "\\u003e", ord("&"): "\\u0026"}
 """Letters that JSON may have in its texts and that a page could take for markup."""
@@ -51,23 +58,25 @@ ESCAPES = {ord("<"): "\\u003c", ord(">"): "\\u003e", ord("&"): "\\u0026"}
 
 @dataclass(frozen=True)
 class Descriptor:
-    """A descriptor: its type (`C`, `T` or `B`), id and display name, and whether an event registered it."""
+    """A descriptor: its type (`C`, `T` or `B`), id and display name, whether an event registered it, and its locks, as `W db`."""
 
     type: str
     id: str
     name: str
     is_dynamic: bool
+    locks: List[str] = field(default_factory=list)
 
 
 @dataclass(frozen=True)
 class Event:
-    """An event: its worker, its key, its stamp, its kind, and the fields after it."""
+    """An event: its worker, its key, its stamp, its kind, the fields after it, and its position in its record."""
 
     worker: int
     key: int
     stamp: int
     kind: str
     fields: Sequence[str]
+    position: int
 
 
 @dataclass
@@ -85,6 +94,7 @@ class Execution:
     end: float = 0
     row: int = 0
     height: int = 1
+    entries: List[Sequence[str]] = field(default_factory=list)
     inner: List["Execution"] = field(default_factory=list)
 
 
@@ -97,36 +107,61 @@ def fields_of(line: str) -> List[str]:
 class Record:
     """The descriptors of a record by their keys, its events, and its executions: finished ones in the order of their ends, then the others."""
 
-    def __init__(self, text: bytes) -> None:
+    def __init__(self, *texts: bytes) -> None:
         self.descriptors: Dict[int, Descriptor] = {}
         self.events: List[Event] = []
-        for line in text.decode().split("\n")[1:-1]:
-            mark, *fields = fields_of(line)
-            if mark == "N":
-                self.descriptors[len(self.descriptors)] = Descriptor(*fields, is_dynamic=False)
-                continue
-            worker, key, stamp, kind, *rest = fields
-            self.events.append(Event(int(worker), int(key), int(stamp), kind, rest))
-            if kind == "dynamic":
-                self.descriptors[int(key)] = Descriptor(*rest, is_dynamic=True)
+        for number, text in enumerate(texts):
+            self._read(text.decode(), number * NUMBERS)
+        # (a record whose stamps are no times stays in its order)
+        ordered = sorted(self.events, key=lambda it: it.stamp)
+        if len(texts) > 1 and all(list(group) == sorted(group, key=lambda it: it.stamp) for group in self._by_record()):
+            self.events = ordered
         self.executions = list(self._executions())
         self.has_times = self._has_times()
         self.stamps = [event.stamp if self.has_times else position for position, event in enumerate(self.events)]
 
+    def _by_record(self) -> List[List[Event]]:
+        found: Dict[int, List[Event]] = defaultdict(list)
+        for event in self.events:
+            found[event.key // NUMBERS].append(event)
+        return list(found.values())
+
+    def _read(self, text: str, first: int) -> None:
+        """Reads a text, whose keys and workers begin at this number."""
+        key = position = 0
+        for line in text.split("\n")[1:-1]:
+            mark, *fields = fields_of(line)
+            if mark == "N":
+                self.descriptors[first + key] = Descriptor(*fields, is_dynamic=False)
+                key += 1
+                continue
+            if mark == "L":
+                self.descriptors[first + int(fields[0])].locks.append(" ".join(fields[1:]))
+                continue
+            worker, of, stamp, kind, *rest = fields
+            self.events.append(Event(first + int(worker), first + int(of), int(stamp), kind, rest, position))
+            position += 1
+            if kind == "dynamic":
+                self.descriptors[first + int(of)] = Descriptor(*rest, is_dynamic=True)
+
     def _executions(self) -> Iterator[Execution]:
         unfinished = []
         starts: Dict[int, int] = {}
+        entries: Dict[int, List[Sequence[str]]] = defaultdict(list)
         for position, event in enumerate(self.events):
+            if event.kind == "report":
+                entries[event.key].append(event.fields)
             first = starts.pop(event.key, None) if event.kind in ("start", "skip", "finish") else None
             if event.kind == "skip":
                 yield Execution(event.key, "skipped", position, position)
             elif event.kind == "finish" and first is not None:
-                yield Execution(event.key, ENDINGS[event.fields[0]], first, position)
+                yield Execution(event.key, ENDINGS[event.fields[0]], first, position, entries=entries.pop(event.key, []))
             if event.kind != "finish" and first is not None:
-                unfinished.append(Execution(event.key, UNFINISHED, first, position))
+                unfinished.append(Execution(event.key, UNFINISHED, first, position, entries=entries.pop(event.key, [])))
             if event.kind == "start":
                 starts[event.key] = position
-        yield from [*unfinished, *(Execution(key, UNFINISHED, first, None) for key, first in starts.items())]
+        left = (Execution(key, UNFINISHED, first, None, entries=entries.pop(key, [])) for key, first in starts.items())
+        yield from [*unfinished, *left]
 
     def _has_times(self) -> bool:
         """Whether the stamps are times."""
@@ -144,7 +179,7 @@ class Record:
     def answer(self) -> bytes:
         """What `ask executions` has to answer."""
         finished = [it for it in self.executions if it.ending != UNFINISHED]
-        return "".join(f"{it.key} {it.ending} {self.events[it.first].stamp} {self.events[it.last].stamp}\n" for it in finished).encode()
+        return "".join(f"{it.key % NUMBERS} {it.ending} {self.events[it.first].stamp} {self.events[it.last].stamp}\n" for it in finished).encode()
 
 
 def places_of(record: Record) -> List[float]:
@@ -159,9 +194,9 @@ def places_of(record: Record) -> List[float]:
 
 def roots_of_lanes(record: Record) -> Dict[int, List[Execution]]:
     """The executions of each worker that stand in no frame. The others are put into the nearest frame that covers them."""
-    keys: Dict[str, int] = {}
+    keys: Dict[Tuple[int, str], int] = {}
     for key, descriptor in record.descriptors.items():
-        keys.setdefault(descriptor.id, key)
+        keys.setdefault((key // NUMBERS, descriptor.id), key)
     runs: Dict[int, Execution] = {}
     roots: Dict[int, List[Execution]] = defaultdict(list)
     for it in sorted(record.executions, key=lambda it: it.first):
@@ -169,7 +204,7 @@ def roots_of_lanes(record: Record) -> Dict[int, List[Execution]]:
         # (in a segment of an id `/` is an escape)
         while "/" in text and not frame:
             text = text.rpartition("/")[0]
-            above = runs.get(keys.get(text, -1))
+            above = runs.get(keys.get((it.key // NUMBERS, text), -1))
             if above and record.events[above.first].worker == worker and above.begin <= it.begin and it.end <= above.end:
                 frame = above
         (frame.inner if frame else roots[worker]).append(it)
@@ -207,7 +242,7 @@ def lanes_of(record: Record, end: float) -> List[Dict[str, int]]:
     for worker, roots in sorted(roots_of_lanes(record).items()):
         rows = pack(roots)
         move(roots, row)
-        lanes.append({"worker": worker, "row": row, "rows": rows})
+        lanes.append({"record": worker // NUMBERS, "worker": worker % NUMBERS, "row": row, "rows": rows})
         row += rows
     return lanes
 
@@ -250,16 +285,17 @@ def gaps_of(record: Record) -> List[Tuple[int, int]]:
 def row_of(record: Record, it: Execution, descriptor: int, origin: int) -> List[object]:
     """What the page has of an execution, in the order of `COLUMNS`."""
     start, stop = record.events[it.first], record.events[it.last] if it.last is not None and it.ending != UNFINISHED else None
-    drawn = [round(it.begin, 6), round(it.end, 6), it.row, it.height]
+    drawn = [it.entries, round(it.begin, 6), round(it.end, 6), it.row, it.height]
+    worker = start.worker % NUMBERS
     if not stop:
-        return [descriptor, it.ending, start.worker, None, it.first, None, str(start.stamp - origin), None, None, *drawn]
+        return [descriptor, it.ending, worker, None, start.position, None, str(start.stamp - origin), None, None, *drawn]
     # (the reason of a skip, or the message of a finish)
     message = next(iter(stop.fields[0 if stop.kind == "skip" else 1 :]), None)
     stamps = [str(start.stamp - origin), str(stop.stamp - origin)]
-    return [descriptor, it.ending, start.worker, stop.worker, it.first, it.last, *stamps, message, *drawn]
+    return [descriptor, it.ending, worker, stop.worker % NUMBERS, start.position, stop.position, *stamps, message, *drawn]
 
 
-def data_of(record: Record, unit: int) -> Dict[str, object]:
+def data_of(record: Record, unit: int, names: Sequence[str] = ()) -> Dict[str, object]:
     """All that the page draws."""
     end = float(int(max(places_of(record), default=0)) + 1)
     lanes = lanes_of(record, end)
@@ -269,12 +305,13 @@ def data_of(record: Record, unit: int) -> Dict[str, object]:
     return {
         "times": record.has_times,
         "unit": unit,
+        "records": names,
         "origin": str(origin),
         "end": end,
         "events": len(record.events),
         "not_run": len(record.descriptors) - len(drawn),
         "lanes": lanes,
-        "descriptors": [[it.type, it.id, it.name, it.is_dynamic] for it in descriptors],
+        "descriptors": [[it.type, it.id, it.name, it.is_dynamic, it.locks] for it in descriptors],
         "columns": COLUMNS,
         "executions": [row_of(record, it, drawn[it.key], origin) for it in record.executions],
         "slowest": longest(lengths_of_tests(record)),
@@ -300,21 +337,29 @@ def page_of(data: Dict[str, object]) -> str:
     return re.sub(r"\{\{(\w+)\}\}", lambda found: fillings[found[1]], parts["html"])
 
 
-def main(words: Sequence[str]) -> int:
-    parser = argparse.ArgumentParser(prog="tools/timeline", description="Draws a run as a page: tools/timeline < RECORD > run.html.")
-    parser.add_argument("--unit", choices=UNITS, help="what a stamp counts: microseconds in a record of the listener for JUnit")
-    unit = UNITS.get(parser.parse_args(words).unit, 0)
+def read_records(paths: Sequence[str]) -> Tuple[List[bytes], List[str]]:
+    """The texts of these files, or of standard input where there are none, and the files' names; or a fault where the program refuses one."""
     if sys.stdin is None or sys.stdout is None:
         raise Failed("standard input or output is closed")
-    text = sys.stdin.buffer.read()
-    with tempfile.TemporaryFile() as file:
-        file.write(text)
-        answered = ask(file, b"executions")
-    record = Record(text)
-    if answered != (0, record.answer()):
-        raise not_an_answer(*answered)
-    sys.stdout.write(page_of(data_of(record, unit)))
-    sys.stdout.flush()
+    texts = []
+    for path in paths or [""]:
+        with open(path, "rb") if path else open(sys.stdin.fileno(), "rb", closefd=False) as file:
+            texts.append(file.read())
+        with tempfile.TemporaryFile() as file:
+            file.write(texts[-1])
+            answered = ask(file, b"executions")
+        if answered != (0, Record(texts[-1]).answer()):
+            raise not_an_answer(*answered)
+    return texts, [os.path.basename(path) for path in paths]
+
+
+def main(words: Sequence[str]) -> int:
+    parser = argparse.ArgumentParser(prog="tools/timeline", description="Draws runs as a page: tools/timeline [RECORD ..] > run.html.")
+    parser.add_argument("--unit", choices=UNITS, help="what a stamp counts: microseconds in a record of the listener for JUnit")
+    parser.add_argument("records", metavar="RECORD", nargs="*", help="a record text; without one standard input is read")
+    read = parser.parse_args(words)
+    texts, names = read_records(read.records)
+    print(page_of(data_of(Record(*texts), UNITS.get(read.unit, 0), names)), end="", flush=True)
     return 0
 
 

@@ -4,6 +4,7 @@ import glob
 import os
 import re
 from dataclasses import dataclass, field
+from itertools import accumulate
 from typing import Dict, List, Sequence
 
 from records import HEADER, check_lines, check_record
@@ -64,10 +65,10 @@ def limits() -> List[Case]:
     static = [*engine, *(f"N|T|[engine:e]/[t:{at}]|t{at}" for at in range(1, 65_536))]
     last = ["E|1|0|0|start", "E|1|65535|0|skip|last", "E|1|65536|0|dynamic|T|[engine:e]/[d:1]|dynamic"]
     last += ["E|1|65536|0|start", "E|1|65536|0|finish|ok"]
-    registered = [*one_test, "E|1|65536|0|dynamic|T|[engine:e]/[d:other]|other"]
-    registered += [f"E|2|{131_072 + at}|0|dynamic|T|[engine:e]/[d:{at}]|d{at}" for at in range(65_536)]
-    first = [*one_test, f"E|1|0|0|report|k|{'x' * (10 * MIB)}"]
-    rest = 16 * MIB - sum(len(line) + 1 for line in first) - len("E|1|0|1|report|k|\n")
+    registered = [*one_test, "E|1|0|0|start", "E|2|131072|0|dynamic|T|[engine:e]/[d:other]|other"]
+    registered += [f"E|1|{65_536 + at}|0|dynamic|T|[engine:e]/[d:{at}]|d{at}" for at in range(65_536)]
+    first = [*one_test, "E|1|0|0|start", f"E|1|0|1|report{pairs_of(10 * MIB)}"]
+    rest = 16 * MIB - sum(len(line) + 1 for line in first) - len("E|1|0|2|report\n")
     names = [*engine, "N|T|[engine:e]/[t:1]|" + "x" * (10 * MIB), "N|T|[engine:e]/[t:2]|"]
     # (so 2,000 bytes are left)
     names[-1] += "x" * (16 * MIB - 2_000 - sum(len(line) + 1 for line in names))
@@ -75,17 +76,43 @@ def limits() -> List[Case]:
     return [
         at_limit("most-static", static + last, lifecycle="no end 0"),
         at_limit("too-many-static", static, "the run has more than 65536 static descriptors"),
-        at_limit("most-registered", [*registered, "E|3|196608|0|dynamic|T|[engine:e]/[d:third]|third"]),
-        at_limit("too-many-registered", registered, "worker 2 has registered 65536 descriptors"),
-        at_limit("most-bytes", [*first, f"E|1|0|1|report|k|{'x' * rest}"], too_long),
+        at_limit("most-registered", [*registered, "E|2|131073|0|dynamic|T|[engine:e]/[d:third]|third"]),
+        at_limit("too-many-registered", registered, "worker 1 has registered 65536 descriptors"),
+        at_limit("most-bytes", [*first, f"E|1|0|2|report{pairs_of(rest)}"], too_long),
         at_limit("too-many-bytes", first, too_long),
         at_limit("too-many-static-bytes", names, too_long),
+        at_limit("long-texts", [*one_test, *long_texts()]),
+        many_segments(),
     ]
+
+
+def pairs_of(count: int) -> str:
+    """The pairs of an entry, in as many letters."""
+    found = ""
+    for left in range(count // 65_000 + 1, 0, -1):
+        found += f"|{9_999 - left}|{'x' * ((count - len(found)) // left - 6)}"
+    return found
+
+
+def long_texts() -> List[str]:
+    """Texts as long as may be, and longer ones, which are cut."""
+    most, cut = "x" * 65_536, f"{'x' * 65_535} .. (65538 bytes)"
+    failures = [f"E|1|1|0|finish|fail|{most} .. (1048576 bytes)"] * 20
+    return ["E|1|0|0|start", f"E|1|0|0|report|{most}|{cut}", f"E|1|0|0|report|{cut}|{most}", f"E|1|1|0|skip|{cut}", *failures, f"E|1|0|0|finish|abort|{cut}"]
+
+
+def many_segments() -> Case:
+    """Ids of up to 66 segments."""
+    ids = list(accumulate((f"/[n:{number}]" for number in range(2, 67)), initial="[engine:e]"))
+    said = [f"testkit: [replaced-id:{key}] stands for an id that no record can have: {ids[key]}" for key in (64, 65)]
+    ids[64:] = ["[replaced-id:64]", "[replaced-id:65]"]
+    lines = [HEADER, "N|C|[engine:e]|engine", *(f"N|C|{it}|level {level}" for level, it in enumerate(ids[1:], 2))]
+    return Case("most-segments", ["whole true"], said, "", {"record": [*lines, "E|1|0|0|start", "E|1|0|0|finish|ok"]})
 
 
 def at_limit(name: str, record: List[str], why: str = "", lifecycle: str = "") -> Case:
     """A case whose recording ends early for this reason, if there is one."""
-    messages = [f"testkit: the recording ends here: {why}"] if why else []
+    messages = [f"testkit: the recording of FOLDER/{name}.record ends here: {why}"] if why else []
     return Case(name, [f"whole {'false' if why else 'true'}"], messages, lifecycle, {"record": record})
 
 
@@ -96,7 +123,7 @@ def all_cases() -> List[Case]:
 
 def check_case(case: Case, folder: str, facts: Sequence[str]) -> None:
     """Fails where a case left something else in the folder, or said something else."""
-    took = [int(fact.split(" ")[1]) for fact in facts if fact.startswith("microseconds ")]
+    took = [(int(fact.split(" ")[1]), int(fact.split(" ")[2])) for fact in facts if fact.startswith("microseconds ")]
     assert len(took) == 1, "it didn't come to its end"
     check_lines([fact for fact in facts if not fact.startswith("microseconds ")], case.facts)
     files = {path[len(f"{folder}/{case.name}.") :] for path in glob.glob(f"{folder}/{case.name}.*") if not os.path.isdir(path)}

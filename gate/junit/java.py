@@ -18,7 +18,7 @@ NAMES_OF_JARS = (
 )
 JARS = [f"{LIBRARY}/{name}.jar" for name in NAMES_OF_JARS]
 EXAMPLES, HERE = f"{fixtures.TOP}/examples/junit", os.path.dirname(os.path.realpath(__file__))
-LISTENER = ("RecordListener", "ResultsWriter", "RecordAssert")
+LISTENER = ("RecordListener", "RecordFile", "ResultsWriter", "RecordAssert", "RecordSource", "ResultsAssert")
 """What others use; it has to compile as Java 8."""
 
 KIT = os.environ.get("KIT", "")
@@ -83,7 +83,7 @@ def with_service(classes: Classes, folder: str) -> None:
     """Puts the listener into a folder as a build has it: its class, and the file by which JUnit finds it."""
     os.makedirs(f"{folder}/META-INF/services")
     os.makedirs(f"{folder}/testkit", exist_ok=True)
-    for path in glob.glob(f"{classes.folder}/testkit/RecordListener*.class"):
+    for path in glob.glob(f"{classes.folder}/testkit/Record[FL]*.class"):
         shutil.copy(path, f"{folder}/testkit")
     with open(f"{folder}/META-INF/services/org.junit.platform.launcher.TestExecutionListener", "w", encoding="utf-8") as file:
         file.write("testkit.RecordListener\n")

@@ -4,7 +4,7 @@ import re
 from collections import Counter, defaultdict
 from dataclasses import dataclass
 from itertools import zip_longest
-from typing import Dict, List, Optional, Sequence
+from typing import Dict, List, Optional, Sequence, Tuple
 
 HEADER = "testkit-record|2"
 ENTRY = re.compile(r"E\|([0-9]+)\|([0-9]+)\|([0-9]+)\|(.*)", re.DOTALL)
@@ -31,11 +31,16 @@ def entries(lines: Sequence[str]) -> List[Entry]:
     return [Entry(int(it[1]), int(it[2]), int(it[3]), it[4]) for it in found]
 
 
-def check_stamps(lines: Sequence[str], most: Optional[int] = None) -> None:
-    """Fails where stamps that are times fall, or the last is later than the end of the run."""
+SLACK = 100_000
+"""By how many microseconds the clock of the system, which may be set, is let be another than the monotonic one."""
+
+
+def check_stamps(lines: Sequence[str], run: Optional[Tuple[int, int]] = None) -> None:
+    """Fails where stamps that are times fall, or aren't of a run that began and ended at these microseconds since 1970."""
     stamps = [it.stamp for it in entries(lines)]
     assert stamps == sorted(stamps), f"a stamp falls: {stamps[:MOST_COLUMNS]}"
-    assert most is None or not stamps or stamps[-1] <= most, f"the last stamp is {stamps[-1]}, and the run took {most} microseconds"
+    is_in_time = not run or not stamps or run[0] - SLACK <= stamps[0] and stamps[-1] <= run[1] + SLACK
+    assert is_in_time, f"the stamps {stamps[:1]} to {stamps[-1:]} aren't of the run from {run}"
 
 
 def by_id(lines: Sequence[str]) -> List[str]:
@@ -62,10 +67,10 @@ def check_lines(came: Sequence[str], wanted: Sequence[str]) -> None:
             raise AssertionError(f"line {number} is {shown[0]!r}, wanted {shown[1]!r}")
 
 
-def check_record(text: str, wanted: Sequence[str], most: Optional[int] = None) -> None:
+def check_record(text: str, wanted: Sequence[str], run: Optional[Tuple[int, int]] = None) -> None:
     """Fails where the text isn't this record; where all wanted stamps are 0 those of the text are times, and may not fall."""
     lines = text.split("\n")
     if not any(it.stamp for it in entries(wanted)):
-        check_stamps(lines, most)
+        check_stamps(lines, run)
         lines = [ENTRY.sub(r"E|\1|\2|0|\4", line) for line in lines]
     check_lines(lines, [*wanted, ""])

@@ -15,8 +15,9 @@ CROWD, REPORTS = 30, 600
 """How many threads of the case `crowd` report at once, and how often each."""
 
 REPORTED = [f"report|number|{number}" for number in range(REPORTS)]
-THREAD_STARTS = [worker for turn in range(3) for worker in range(1, 16)][1:41]
-"""The workers of the forty threads of the odd engine in the order of their first events: the engine's own thread has worker 1."""
+CROWDED = "testkit: more than 15 threads run at once, and share the workers 1 to 15"
+THREADS = 40
+"""How many threads the odd engine has besides its own."""
 
 
 def run_of(statics: Sequence[str], events: Events) -> List[str]:
@@ -42,7 +43,7 @@ def odd_run() -> List[str]:
         f"{both}/[t:1]": ["start", "finish|ok"],
         f"{odd}/[t:off]": ["skip|"],
     }
-    for at in range(len(THREAD_STARTS)):
+    for at in range(THREADS):
         test, below = f"{odd}/[d:{at}]", f"{odd}/[d:{at}]/[d:below]"
         ending = "finish|ok" if at % 2 == 0 else "finish|abort|odd"
         events[test] = [f"dynamic|B|{test}|on thread {at}", "start", "report|half|way", ending]
@@ -52,49 +53,57 @@ def odd_run() -> List[str]:
 
 def crowd_run() -> List[str]:
     """The threads that report at once."""
-    statics = ["N|C|[engine:e]|engine", *(f"N|B|[engine:e]/[t:{at}]|thread {at}" for at in range(CROWD))]
-    ids = [(f"[engine:e]/[t:{thread}]/[d:{number}]", number) for thread in range(CROWD) for number in range(REPORTS)]
-    return run_of(statics, {it: [f"dynamic|T|{it}|report {number}", REPORTED[number]] for it, number in ids})
+    tests = {f"[engine:e]/[t:{at}]": ["start", "finish|ok"] for at in range(CROWD)}
+    statics = ["N|C|[engine:e]|engine", *(f"N|B|{it}|thread {at}" for at, it in enumerate(tests))]
+    reports = [(f"{test}/[d:{number}]", number) for test in tests for number in range(REPORTS)]
+    return run_of(statics, {**tests, **{it: [f"dynamic|T|{it}|report {number}", REPORTED[number]] for it, number in reports}})
 
 
 def check_crowd(lines: Sequence[str], messages: Sequence[str]) -> None:
     """Fails where two threads don't have each worker, or the calls of one don't stand in its order."""
     check_lines(by_id(lines), crowd_run())
     found = entries(lines)
-    assert [it.stamp for it in found] == list(range(2 * CROWD * REPORTS)), "the stamps aren't the positions"
-    ids = {it.key: it.tail.split("|")[2] for it in found if it.tail.startswith("dynamic|")}
+    assert [it.stamp for it in found] == list(range(len(found))), "the stamps aren't the positions"
+    ids = {key: line.split("|")[2] for key, line in enumerate(line for line in lines if line.startswith("N|"))}
+    ids.update({it.key: it.tail.split("|")[2] for it in found if it.tail.startswith("dynamic|")})
     calls: Dict[str, List[Tuple[int, str]]] = {}
     for it in found:
         calls.setdefault(ids[it.key].split("/")[1], []).append((it.worker, it.tail))
     for thread, made in calls.items():
         assert {worker for worker, _ in made} == {made[0][0]}, f"the calls of {thread} have two workers"
-        assert [tail for _, tail in made[1::2]] == REPORTED, f"the calls of {thread} have another order"
+        assert [tail for _, tail in made[2:-1:2]] == REPORTED, f"the calls of {thread} have another order"
     workers = Counter(made[0][0] for made in calls.values())
-    assert workers == {worker: 2 for worker in range(1, 16)}, f"the threads don't get the workers in turn: {workers}"
-    check_lines(messages, ["testkit: more than 15 threads share the workers 1 to 15"])
+    assert workers == {worker: 2 for worker in range(1, 16)}, f"the threads don't share the workers: {workers}"
+    check_lines(messages, [CROWDED])
 
 
 def check_workers(lines: Sequence[str]) -> None:
-    """Fails where a thread of the odd engine has two workers, or the threads don't get them in turn."""
+    """Fails where a thread of the odd engine has two workers, or begins at another than the first at which the fewest executions run."""
     found = entries(lines)
-    tests = {it.key for it in found if it.tail.startswith("dynamic|B|")}
+    threads = {it.key for it in found if it.tail.startswith("dynamic|B|")}
     workers: Dict[int, int] = {}
+    running = Counter({worker: 0 for worker in range(1, 16)})
     for it in found:
-        if it.key in tests and not it.tail.startswith("dynamic|"):
-            assert workers.setdefault(it.key, it.worker) == it.worker, f"the events of key {it.key} have two workers"
-    assert list(workers.values()) == THREAD_STARTS, f"the threads have the workers {list(workers.values())}"
+        if it.tail == "start":
+            if it.key in threads:
+                fewest = min(running, key=lambda worker: (running[worker], worker))
+                assert it.worker == fewest, f"the thread of key {it.key} begins at worker {it.worker}, and not {fewest}"
+            workers[it.key] = it.worker
+            running[it.worker] += 1
+        elif it.tail.startswith("finish|"):
+            assert workers[it.key] == it.worker, f"the events of key {it.key} have two workers"
+            running[it.worker] -= 1
+    assert threads <= set(workers), "a thread has no start"
 
 
-def check_pause(stamps: Sequence[int], run: int, both_runs: int) -> None:
-    """Fails where the stamps of the second of two runs, each with a pause, don't have it between the second and the third event."""
-    assert len(stamps) == 4, f"the stamps are {stamps}"
-    # (each is rounded down)
-    in_time = PAUSE <= stamps[2] - stamps[1] and stamps[2] - stamps[0] <= run + 1 and stamps[3] <= both_runs - PAUSE
-    assert in_time, f"the stamps {stamps} don't fit runs of {run} and {both_runs} microseconds"
+def check_pause(stamps: Sequence[int]) -> None:
+    """Fails where four stamps don't have a pause between the second and the third."""
+    assert len(stamps) == 4 and stamps[2] - stamps[1] >= PAUSE, f"the stamps are {stamps}"
 
 
 def check_stored(lines: Sequence[str]) -> None:
-    """Fails where the lines aren't a record of the sample tests, of which one waits for more than ten milliseconds."""
+    """Fails where the lines aren't a record of the sample tests, which wait for more than ten milliseconds."""
     check_lines(by_id(lines), sample_run())
     check_stamps(lines)
-    assert entries(lines)[-1].stamp > 10_000, "the stamps are no times"
+    stamps = [it.stamp for it in entries(lines)]
+    assert stamps[0] > 1_600_000_000_000_000 and stamps[-1] - stamps[0] > 10_000, "the stamps are no microseconds since 1970"

@@ -1,13 +1,14 @@
 """Tests of RecordAssert: RecordAssertTests by JUnit's console, whose run the listener records as in a build."""
 
 import os
+import shutil
 
 import fixtures
 import java
 from records import HEADER, entries
 from test_listener import WithClasses as Compiled
 
-TESTS = 18
+TESTS = 21
 """How many tests RecordAssertTests has."""
 
 REAL = fixtures.PROGRAM if os.access(fixtures.PROGRAM, os.X_OK) else ""
@@ -51,3 +52,16 @@ class OfRecordAssert(Compiled):
     def test_letters_that_java_would_change(self):
         found, _ = self.play("ascii", "C", "--select-method", "testkit.RecordAssertTests#lettersAreHandedOverOrRefused")
         self.assertEqual(found, {"lettersAreHandedOverOrRefused": ["start", "finish|ok"]})
+
+    def test_without_the_kit(self):
+        """Who asks about a record in a file needs neither JUnit's kit nor its launcher."""
+        at = fixtures.folder(self)
+        shutil.copytree(f"{self.classes.folder}/testkit", f"{at}/classes/testkit")
+        text = "class Asks {\n    public static void main(String[] words) {\n        testkit.RecordAssert.assertThat("
+        text += "java.nio.file.Paths.get(words[0])).matchesLoosely(testkit.RecordAssert.Conditions.hasName(words[1]));\n    }\n}\n"
+        fixtures.write(f"{at}/Asks.java", text)
+        fixtures.write(f"{at}/program", "#!/bin/sh\necho yes\n", 0o755)
+        path = f"{at}/classes:{java.LIBRARY}/opentest4j.jar"
+        compiled = fixtures.run(["javac", "-d", f"{at}/classes", "-cp", path, f"{at}/Asks.java"])
+        ran = fixtures.run([*java.COMMAND, "-cp", path, f"-Dtestkit.program={at}/program", "Asks", f"{at}/Asks.java", "a|b"])
+        self.assertEqual((compiled.status, ran.status), (0, 0), (compiled, ran))

@@ -11,15 +11,17 @@ from cases import Case
 from fixtures import parameterized
 
 STARTED = [records.HEADER, "N|C|[engine:e]|engine", "E|1|0|0|start", "E|1|0|0|finish|ok"]
-TEXT = "".join(f"{line}\n" for line in [*STARTED[:2], "E|1|0|5|start", "E|1|0|7|finish|ok"])
+TEXT = "".join(f"{line}\n" for line in [*STARTED[:2], "E|1|0|500000|start", "E|1|0|700000|finish|ok"])
 POSITIONS = [*STARTED[:3], "E|1|0|1|finish|ok"]
 CASE = Case("case", ["whole true"], ["testkit: FOLDER/a", "testkit: one .."], records={"record": STARTED})
-FACTS = ["whole true", "microseconds 7"]
+RUN = (500_000, 700_000)
+"""When the run of the text began and ended, in microseconds since 1970."""
+FACTS = ["whole true", "microseconds 500000 700000"]
 
 
 def of_record(old="", new="", wanted=STARTED):
-    """The text above with a change, of a run that took 7 microseconds, beside the record that is wanted."""
-    return lambda: records.check_record(TEXT.replace(old, new), wanted, 7)
+    """The text above with a change, beside the record that is wanted."""
+    return lambda: records.check_record(TEXT.replace(old, new), wanted, RUN)
 
 
 def of_case(facts=FACTS, messages="testkit: FOLDER/a\ntestkit: one that goes on\n", **more):
@@ -42,43 +44,51 @@ def of_ids(*lines):
     return lambda: records.check_lines(records.by_id(lines), records.by_id(BY_ID))
 
 
-def of_workers(workers, last=0):
-    """Threads that have these workers; the first test ends on another one, where one is given."""
-    lines = [f"E|1|{65_536 + at}|0|dynamic|B|[e:e]/[d:{at}]|d" for at in range(len(workers))]
+def of_workers(workers, last=0, begin=1):
+    """Threads that have these workers while they all run, and one after the first has ended, there or at another worker."""
+    lines = [f"E|1|{65_536 + at}|0|dynamic|B|[e:e]/[d:{at}]|d" for at in range(len(workers) + 1)]
     lines += [f"E|{worker}|{65_536 + at}|0|start" for at, worker in enumerate(workers)]
-    return lambda: samples.check_workers([*lines, f"E|{last or workers[0]}|65536|0|finish|ok"])
+    lines += [f"E|{last or workers[0]}|65536|0|finish|ok", f"E|{begin}|{65_536 + len(workers)}|0|start"]
+    return lambda: samples.check_workers(lines)
 
 
 def of_crowd(workers=15, first=0):
     """A record of threads that call in turn and have so many workers, whose first stamp is this one."""
     def compare():
-        lines, registered = [records.HEADER, *samples.crowd_run()[1 : 2 + samples.CROWD]], [0] * 16
+        statics = [f"N|B|[engine:e]/[t:{it}]|thread {it}" for it in range(samples.CROWD)]
+        lines, registered = [records.HEADER, "N|C|[engine:e]|engine", *statics], [0] * 16
+        lines += [f"E|{it % workers + 1}|{it + 1}|{it or first}|start" for it in range(samples.CROWD)]
         for call in range(samples.REPORTS * samples.CROWD):
             number, thread = divmod(call, samples.CROWD)
             worker = thread % workers + 1
             entry = f"E|{worker}|{65_536 * worker + registered[worker]}"
             registered[worker] += 1
-            lines.append(f"{entry}|{2 * call or first}|dynamic|T|[engine:e]/[t:{thread}]/[d:{number}]|report {number}")
-            lines.append(f"{entry}|{2 * call + 1}|report|number|{number}")
-        samples.check_crowd(lines, ["testkit: more than 15 threads share the workers 1 to 15"])
+            stamp = samples.CROWD + 2 * call
+            lines.append(f"{entry}|{stamp}|dynamic|T|[engine:e]/[t:{thread}]/[d:{number}]|report {number}")
+            lines.append(f"{entry}|{stamp + 1}|report|number|{number}")
+        stamp = samples.CROWD * (1 + 2 * samples.REPORTS)
+        lines += [f"E|{it % workers + 1}|{it + 1}|{stamp + it}|finish|ok" for it in range(samples.CROWD)]
+        samples.check_crowd(lines, [samples.CROWDED])
 
     return compare
 
 
 RIGHT = [
     ("a record", of_record()),
-    ("positions", of_record("5|start\nE|1|0|7", "0|start\nE|1|0|1", POSITIONS)),
+    ("positions", of_record("500000|start\nE|1|0|700000", "0|start\nE|1|0|1", POSITIONS)),
     ("a case", of_case()),
     ("events of two threads in another order", of_ids(BY_ID[0], *BY_ID[2:4], BY_ID[1], BY_ID[4])),
-    ("workers in turn", of_workers(samples.THREAD_STARTS)),
+    ("workers of a few", of_workers([1, 2, 3])),
+    ("workers of a crowd", of_workers([*range(1, 16), *range(1, 4)])),
     ("a crowd", of_crowd()),
-    ("a pause", lambda: samples.check_pause([1, 2, 100_002, 100_003], 110_000, 250_000)),
+    ("a pause", lambda: samples.check_pause([1, 2, 100_002, 100_003])),
 ]
 WRONG = [
     ("another line", of_record("|ok", "|fail")),
     ("the last line feed is missing", of_record("|ok\n", "|ok")),
-    ("a stamp that falls", of_record("|7|", "|4|")),
-    ("a stamp after the end", of_record("|7|", "|8|")),
+    ("a stamp that falls", of_record("|700000|", "|499999|")),
+    ("a stamp before the run", of_record("|500000|", "|5|")),
+    ("a stamp after the end", of_record("|700000|", "|800001|")),
     ("times in place of positions", of_record(wanted=POSITIONS)),
     ("another record", of_case(record=TEXT.replace("|ok", "|fail"))),
     ("a record that isn't wanted", of_case(**{"2.record": TEXT})),
@@ -87,12 +97,12 @@ WRONG = [
     ("no end", of_case(facts=FACTS[:1])),
     ("events of one id in another order", of_ids(BY_ID[0], BY_ID[4], *BY_ID[2:4], BY_ID[1])),
     ("a key that another worker registers", of_ids(*(line.replace("131072", "196608") for line in BY_ID))),
-    ("workers in another turn", of_workers([*samples.THREAD_STARTS[1:], 2])),
-    ("a thread of two workers", of_workers(samples.THREAD_STARTS, 7)),
+    ("a worker that nothing runs at is left out", of_workers([1, 2, 3], begin=4)),
+    ("workers are shared while one is free", of_workers([1, 2, 2])),
+    ("a thread of two workers", of_workers([1, 2, 3], 2)),
     ("a crowd in which a stamp stands twice", of_crowd(first=1)),
     ("a crowd of fourteen workers", of_crowd(14)),
-    ("a pause in milliseconds", lambda: samples.check_pause([0, 0, 100, 100], 110_000, 250_000)),
-    ("stamps that go on from the first run", lambda: samples.check_pause([100_001, 100_002, 200_003, 200_004], 110_000, 250_000)),
+    ("a pause in milliseconds", lambda: samples.check_pause([0, 0, 100, 100])),
 ]
 """A comparison, after its name."""
 

@@ -17,11 +17,17 @@ import samples
 from fixtures import parameterized
 from records import HEADER, by_id, check_lines, check_stamps, entries
 
-LONGER = 1 << 16
-"""How many bytes a file has that is longer than any sample's record."""
+LONGER = 1 << 12
+"""How many lines a file has that is longer than any sample's record."""
 
 FULL = 1 << 20
 """How many bytes a file may have in the case of a full disk."""
+
+FORWARDING = 24
+"""How many threads of the case `forwarded-errors` forward what they write."""
+
+MOST_SECONDS = 60
+"""How many seconds that case may take, which needs one or hangs."""
 
 LIFECYCLES = {"sample": "yes", "odd": "yes", "halt": "no end 0", "exit": "no end 0", "memory": "no end 0"}
 """What `ask lifecycle` says of each sample run: the last three are cut off while the root runs."""
@@ -65,6 +71,8 @@ class OfCases(WithClasses):
         cls.play("ListenerCases", "full-disk", most_bytes=FULL)
         cls.play("ListenerCases", "full-at-once", most_bytes=len(HEADER) // 2)
         cls.play_beside_each_other()
+        forwarding = cls.classes.command("ListenerCases", cls.out, "forwarded-errors")
+        cls.forwarded = fixtures.run(forwarding, seconds=MOST_SECONDS)
 
     @classmethod
     def play(cls, main, *names, most_bytes=None):
@@ -111,15 +119,20 @@ class OfCases(WithClasses):
         self.assertEqual(cases.read(f"{self.out}/full-at-once.record"), "")
 
     def test_pause(self):
-        facts = dict(fact.split(" ") for fact in self.facts["times"])
-        stamps = [it.stamp for it in entries(self.lines("times.2.record"))]
-        samples.check_pause(stamps, int(facts["second-run"]), int(facts["microseconds"]))
+        samples.check_pause([it.stamp for it in entries(self.lines("times.record"))])
 
     def test_pause_in_results(self):
-        """The first stamp is 0, whatever time has passed before it; the clock of the day, by which the kit goes, may be slowed down."""
+        """The clock of the day, by which the kit goes, may be slowed down."""
         first, last = [it.stamp for it in entries(self.lines("kit-times.record"))]
-        self.assertEqual(first, 0)
-        self.assertGreaterEqual(last, samples.PAUSE * 9 // 10)
+        self.assertGreaterEqual(last - first, samples.PAUSE * 9 // 10)
+
+    def test_errors_that_go_to_the_listener(self):
+        """Threads whose standard error goes to the listener, which says something there, come to their end."""
+        self.assertEqual(self.forwarded.status, 0, self.forwarded)
+        self.assertIn(b"forwarded-errors whole true\n", self.forwarded.output)
+        tails = [it.tail for it in entries(self.lines("forwarded-errors.record"))]
+        self.assertEqual([tails.count(f"report|letter|{letter}") for letter in "xy"], [1, FORWARDING])
+        self.assertEqual(self.lines("forwarded-errors.messages"), [samples.CROWDED])
 
     def test_a_record_that_another_process_writes(self):
         self.assertEqual(self.before, self.after)
@@ -136,7 +149,7 @@ class OfSamples(WithClasses, fixtures.WithProgram):
         if name == "halt":
             # A longer record of an earlier process: a run that is cut off leaves nothing of it either.
             with open(path, "wb") as file:
-                file.write(b"x" * LONGER)
+                file.write(f"{HEADER}\n".encode() * LONGER)
         counts = self.classes.run("RunSamples", name, path).split()
         lines, record = self.lines(f"{name}.record"), cases.read(path).encode()
         # (no report and no file is counted)
@@ -152,3 +165,31 @@ class OfSamples(WithClasses, fixtures.WithProgram):
         if name == "odd":
             check_lines(by_id(lines), samples.odd_run())
             samples.check_workers(lines)
+
+
+TEST = """import java.util.Map;
+import org.junit.jupiter.api.*;
+@TestMethodOrder(MethodOrderer.MethodName.class)
+class ErrorsTest {
+    @Test void a(TestReporter reporter) { reporter.publishEntry(Map.of("\\uD83D", "v", "\\uDE00", "v")); }
+    @Test void b() { System.err.println("of b"); }
+}
+"""
+
+
+@java.needs_junit
+class OfConsole(WithClasses):
+    """A run of JUnit's console, which finds the listener by its service and captures what tests write on standard error."""
+
+    def test_captured_errors(self):
+        """What the listener says in a test goes to the console, and not into an entry of the test."""
+        java.with_service(self.classes, f"{self.out}/service")
+        fixtures.write(f"{self.out}/ErrorsTest.java", TEST)
+        java.Classes(f"{self.out}/tests").compile([f"{self.out}/ErrorsTest.java"])
+        words = ["-jar", java.CONSOLE, "-cp", f"{self.out}/tests:{self.out}/service", "--select-class", "ErrorsTest", "--details", "none"]
+        settings = {"testkit.record": f"{self.out}/console.record", "junit.platform.output.capture.stderr": "true"}
+        ran = fixtures.run([*java.COMMAND, *words, *(word for pair in settings.items() for word in ("--config", "=".join(pair)))], seconds=java.SECONDS)
+        self.assertEqual(ran.status, 0, ran)
+        self.assertIn(b"are one text, and the second is left out", ran.error)
+        reports = [it.tail for it in entries(self.lines("console.record")) if it.tail.startswith("report|")]
+        self.assertEqual(reports, ["report|\ufffd|v", "report|stderr|of b\\n"])

@@ -1,13 +1,19 @@
-"""Tests of the listener in a build: Debian's Surefire, offline, with two processes that it uses for several classes each."""
+"""Tests of the listener in a build: Debian's Surefire, offline, with processes of its own, one for each class, and in Maven's process."""
 
 import glob
 import os
+import re
 import shutil
+import tempfile
 import unittest
+from collections import Counter
+from dataclasses import dataclass
+from importlib.machinery import SourceFileLoader
 
 import fixtures
 import java
 from cases import read
+from fixtures import parameterized
 from records import HEADER, entries
 
 REPOSITORY = "/usr/share/maven-repo"
@@ -22,9 +28,31 @@ class {0}Test {{
 }}
 """
 
+@dataclass(frozen=True)
+class Setting:
+    """A setting of Surefire, how often its goal runs, and the names of the records that have to be there but for their digits."""
+
+    name: str
+    forks: int
+    is_reused: str
+    runs: int
+    path: str
+    records: Counter
+
+
+DOCUMENTED = "run-%p-%n.record"
+SETTINGS = [
+    Setting("two processes that are used again", 2, "true", 1, DOCUMENTED, Counter({"run-#-#.record": 2})),
+    Setting("a process for each class", 1, "false", 1, DOCUMENTED, Counter({"run-#-#.record": len(CLASSES)})),
+    Setting("two executions in Maven's process", 0, "true", 2, DOCUMENTED, Counter({"run-#-#.record": 2})),
+    Setting("two executions in Maven's process at one path", 0, "true", 2, "run.record", Counter(["run.record", "run.#.record"])),
+]
+
 POM = """<project xmlns="http://maven.apache.org/POM/4.0.0">
   <modelVersion>4.0.0</modelVersion><groupId>demo</groupId><artifactId>demo</artifactId><version>1</version>
+{repositories}
   <dependencies>
+{dependency}
     <dependency><groupId>org.junit.jupiter</groupId><artifactId>junit-jupiter-engine</artifactId><version>{jupiter}</version></dependency>
     <dependency>
       <groupId>org.junit.platform</groupId><artifactId>junit-platform-launcher</artifactId><version>{launcher}</version>
@@ -33,12 +61,21 @@ POM = """<project xmlns="http://maven.apache.org/POM/4.0.0">
   <build><plugins><plugin>
     <groupId>org.apache.maven.plugins</groupId><artifactId>maven-surefire-plugin</artifactId><version>{surefire}</version>
     <configuration>
-      <forkCount>2</forkCount><reuseForks>true</reuseForks><testFailureIgnore>true</testFailureIgnore>
-{lines}
+      <forkCount>{forks}</forkCount><reuseForks>{is_reused}</reuseForks><testFailureIgnore>true</testFailureIgnore>
+{systemPropertyVariables}
     </configuration>
+    <executions>
+      <execution><id>0</id></execution>
+      <execution><id>1</id><configuration><reportNameSuffix>again</reportNameSuffix></configuration></execution>
+    </executions>
   </plugin></plugins></build>
 </project>
 """
+
+
+def read_bytes(path):
+    with open(path, "rb") as file:
+        return file.read()
 
 
 def version_of(name):
@@ -47,51 +84,72 @@ def version_of(name):
     return max(found, key=lambda it: [int(part) for part in it.split(".")], default="")
 
 
-def lines_of_document():
-    """The lines of a pom that docs/JUNIT.md shows."""
-    lines = read(f"{fixtures.TOP}/docs/JUNIT.md").split("\n")
-    begin, end = lines.index("    <additionalClasspathElements>"), lines.index("    </systemPropertyVariables>")
-    return "\n".join(lines[begin : end + 1])
+def lines_of_document(element):
+    """An element of a pom as docs/JUNIT.md shows it."""
+    found = re.search(rf"^    <{element}>.*?</{element}>$", read(f"{fixtures.TOP}/docs/JUNIT.md"), re.MULTILINE | re.DOTALL)
+    return found[0]
+
+
+def write_repository(jar, folder):
+    """Writes the Maven repository with a jar as `tools/package` does."""
+    package = SourceFileLoader("package", f"{fixtures.TOP}/tools/package").load_module()
+    for name, member in package.in_maven(jar, read(f"{fixtures.TOP}/VERSION").strip()).items():
+        os.makedirs(os.path.dirname(f"{folder}/{name}"), exist_ok=True)
+        with open(f"{folder}/{name}", "wb") as file:
+            file.write(member.data)
 
 
 @java.needs_junit
 @fixtures.needs("mvn")
 @unittest.skipUnless(os.path.isdir(f"{REPOSITORY}/org/apache/maven/surefire/surefire-junit-platform"), "no libsurefire-java")
 class OfSurefire(unittest.TestCase):
-    """A build with the lines that docs/JUNIT.md shows, which name the folder of the listener here."""
+    """A build with the lines that docs/JUNIT.md shows, but for the folder of the Maven repository."""
 
-    def test_build(self):
-        top = os.path.realpath(fixtures.folder(self))
-        classes = java.compiled(f"{top}/classes", with_tests=False)
-        java.with_service(classes, f"{top}/listener")
-        os.makedirs(f"{top}/target/test-classes")
+    @classmethod
+    def setUpClass(cls):
+        super().setUpClass()
+        cls.room = tempfile.TemporaryDirectory(prefix="surefire-")
+        cls.top = os.path.realpath(cls.room.name)
+        cls.addClassCleanup(cls.room.cleanup)
+        java.with_service(java.compiled(f"{cls.top}/classes", with_tests=False), f"{cls.top}/listener")
+        write_repository(read_bytes(shutil.make_archive(f"{cls.top}/listener", "zip", f"{cls.top}/listener")), cls.top)
+        os.makedirs(f"{cls.top}/target/test-classes")
         for name in CLASSES:
-            with open(f"{top}/{name}Test.java", "w", encoding="utf-8") as file:
-                file.write(TEST.format(name))
-        java.Classes(f"{top}/target/test-classes").compile(glob.glob(f"{top}/*.java"))
+            fixtures.write(f"{cls.top}/{name}Test.java", TEST.format(name))
+        java.Classes(f"{cls.top}/target/test-classes").compile(glob.glob(f"{cls.top}/*.java"))
+        # (Maven writes beside what it reads)
+        shutil.copytree(REPOSITORY, f"{cls.top}/repository", copy_function=os.symlink)
+
+    @parameterized(SETTINGS)
+    def test_build(self, setting):
+        surefire = version_of("org/apache/maven/plugins/maven-surefire-plugin")
         versions = {
             "jupiter": version_of("org/junit/jupiter/junit-jupiter-engine"),
             "launcher": version_of("org/junit/platform/junit-platform-launcher"),
-            "surefire": version_of("org/apache/maven/plugins/maven-surefire-plugin"),
+            "surefire": surefire,
         }
-        lines = lines_of_document().replace("/usr/share/java/testkit-listener.jar", f"{top}/listener")
-        with open(f"{top}/pom.xml", "w", encoding="utf-8") as file:
-            file.write(POM.format(lines=lines, **versions))
-        # (Maven writes beside what it reads)
-        shutil.copytree(REPOSITORY, f"{top}/repository", copy_function=os.symlink)
-        words = ["mvn", "-B", "-o", f"-Dmaven.repo.local={top}/repository", f"{PLUGIN}:{versions['surefire']}:test"]
-        ran = fixtures.run(words, seconds=java.SECONDS, cwd=top)
-        self.assertEqual(ran.status, 0, ran.output.decode(errors="replace"))
-        self.assertIn(f"Tests run: {2 * len(CLASSES)}, Failures: 0, Errors: {len(CLASSES)}", ran.output.decode(errors="replace"))
-        records = glob.glob(f"{top}/target/run-*-*.record")
-        self.assertEqual(len({os.path.basename(it).split("-")[1] for it in records}), 2, records)
-        endings = []
-        for record in records:
-            lines = read(record).split("\n")
-            self.assertEqual(lines[0], HEADER)
-            statics = [line for line in lines if line.startswith("N|")]
-            for key in [key for key, line in enumerate(statics) if "/[method:" in line]:
-                start, end = [it.tail for it in entries(lines) if it.key == key]
-                self.assertEqual(start, "start")
-                endings.append(end)
-        self.assertEqual(sorted(endings), sorted([f"finish|fail|boom {name}" for name in CLASSES] + ["finish|ok"] * len(CLASSES)))
+        lines = {it: lines_of_document(it) for it in ("repositories", "dependency", "systemPropertyVariables")}
+        text = POM.format(forks=setting.forks, is_reused=setting.is_reused, **lines, **versions)
+        fixtures.write(f"{self.top}/pom.xml", text.replace("/usr/share/testkit/maven", f"{self.top}/maven").replace(DOCUMENTED, setting.path))
+        for record in glob.glob(f"{self.top}/target/*.record"):
+            os.remove(record)
+        words = ["mvn", "-B", "-o", f"-Dmaven.repo.local={self.top}/repository", "-Daether.offline.protocols=file"]
+        ran = fixtures.run([*words, *(f"{PLUGIN}:{surefire}:test@{run}" for run in range(setting.runs))], seconds=java.SECONDS, cwd=self.top)
+        said = ran.output.decode(errors="replace")
+        self.assertEqual(ran.status, 0, said)
+        self.assertEqual(said.count(f"Tests run: {2 * len(CLASSES)}, Failures: 0, Errors: {len(CLASSES)}"), setting.runs, said)
+        records = glob.glob(f"{self.top}/target/*.record")
+        self.assertEqual(Counter(re.sub("[0-9]+", "#", os.path.basename(it)) for it in records), setting.records)
+        endings = Counter(ending for record in records for ending in self.endings_of(record))
+        wanted = Counter({"finish|ok": len(CLASSES), **{f"finish|fail|boom {name}": 1 for name in CLASSES}})
+        self.assertEqual(endings, Counter({ending: setting.runs * number for ending, number in wanted.items()}))
+
+    def endings_of(self, record):
+        """How each test of a record ended, which has to have started before."""
+        lines = read(record).split("\n")
+        self.assertEqual(lines[0], HEADER)
+        statics = [line for line in lines if line.startswith("N|")]
+        for key in [key for key, line in enumerate(statics) if "/[method:" in line]:
+            start, end = [it.tail for it in entries(lines) if it.key == key]
+            self.assertEqual(start, "start")
+            yield end

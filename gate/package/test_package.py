@@ -18,8 +18,12 @@ from repository import BUILT, MOMENT, RUN, Repository, read
 VERSION = read(f"{TOP}/VERSION").decode().strip()
 INSIDE = f"testkit-{VERSION}"
 TAR, DEB, JAR = f"{INSIDE}-x86_64-linux.tar.gz", f"testkit_{VERSION}_amd64.deb", "testkit-listener.jar"
-TOOLS = {"asking.py", "timeline", "timeline.py", "timeline.css", "timeline.html", "timeline.js"}
+TOOLS = {"asking.py", "from-open-test-reporting", "trace", "timeline", "timeline.py", "timeline.css", "timeline.html", "timeline.js"}
+COMMANDS = ("from-open-test-reporting", "timeline", "trace")
+"""The tools of which Debian's package makes commands."""
 EXPLAIN = "usr/bin/testkit-explain"
+MAVEN = f"maven/testkit/testkit-listener/{VERSION}/testkit-listener-{VERSION}"
+IN_MAVEN = [f"{MAVEN}.{kind}{sum}" for kind in ("jar", "pom") for sum in ("", ".md5", ".sha1")]
 DOCUMENTS = "usr/share/doc/testkit"
 JUNIT = ("junit-platform-commons", "junit-platform-engine", "junit-platform-launcher", "opentest4j", "apiguardian-api")
 CONSOLE = "/usr/share/java/junit-platform-console-standalone.jar"
@@ -75,7 +79,7 @@ class Made(unittest.TestCase):
 
     def test_archive(self):
         """It has the files of the repository with fixed owners, times and modes, sorted, and no name and no time of its own."""
-        self.assertEqual(files_below(self.tar), sorted([*self.packed, "PROVED-WITH", "testkit", *([JAR] if HAS_JAVA else [])]))
+        self.assertEqual(files_below(self.tar), sorted([*self.packed, "PROVED-WITH", "testkit", *([JAR, *IN_MAVEN] if HAS_JAVA else [])]))
         self.assertEqual([it for it in self.packed if read(f"{self.tar}/{it}") != read(self.of.path(it))], [])
         self.assertEqual(read(f"{self.tar}/testkit"), read(self.of.path(BUILT)))
         names = [it.name for it in self.in_tar]
@@ -96,11 +100,14 @@ class Made(unittest.TestCase):
         places = {"LICENSE": f"{DOCUMENTS}/copyright", "docs/testkit.1": "usr/share/man/man1/testkit.1.gz", JAR: f"usr/share/java/{JAR}"}
         if name.startswith("tools/") or name == "testkit":
             return f"usr/lib/testkit/{name}"
+        if name.startswith("maven/"):
+            return f"usr/share/testkit/{name}"
         return places.get(name) or f"{DOCUMENTS}/{name[5:] if name.startswith('docs/') else name}"
 
     def test_files_in_debian(self):
         """It has the files of the archive in other places, links, and a command."""
-        links = ["usr/bin/testkit", "usr/bin/testkit-timeline", *(f"usr/share/man/man1/testkit-{it}.1.gz" for it in ("explain", "timeline"))]
+        links = ["usr/bin/testkit", *(f"usr/bin/testkit-{it}" for it in COMMANDS)]
+        links += [f"usr/share/man/man1/testkit-{it}.1.gz" for it in ("explain", *COMMANDS)]
         names = files_below(self.tar)
         self.assertEqual(files_below(self.deb), sorted([*map(self.place, names), *links, EXPLAIN]))
         self.assertEqual([it for it in links if not os.path.islink(f"{self.deb}/{it}") or not os.path.exists(f"{self.deb}/{it}")], [])
@@ -141,6 +148,10 @@ class Made(unittest.TestCase):
             self.assertEqual(run([program, "ask", "count", "all"], record).output, b"5\n")
             drawn = run([f"{tools}timeline"], record, env={"PATH": os.environ["PATH"]})
             self.assertTrue(drawn.output.startswith(b"<!doctype html>") and b"[engine:e]/[t:1]" in drawn.output, drawn.error)
+            traced = run([f"{tools}trace"], record, env={"PATH": os.environ["PATH"]})
+            self.assertTrue(traced.output.startswith(b'{"traceEvents":[') and b"[engine:e]/[t:1]" in traced.output, traced.error)
+            made = run([f"{tools}from-open-test-reporting"], read(f"{TOP}/gate/junit/open-test-reporting.xml"), env={"PATH": os.environ["PATH"]})
+            self.assertEqual(made.output, read(f"{TOP}/gate/junit/open-test-reporting.record"), made.error)
         record = read(f"{self.tar}/examples/two_tests.record")
         explained = run([f"{self.deb}/{EXPLAIN}", "list", "failed"], record, env={"PATH": f"{self.deb}/usr/bin:{os.environ['PATH']}"})
         self.assertEqual(explained.output, b'2 E|1|1|2|finish|fail|boom   [engine:e]/[t:1] "one"\n', explained.error)
@@ -160,10 +171,21 @@ class Made(unittest.TestCase):
         heads = ["META-INF/MANIFEST.MF", "META-INF/LICENSE", "META-INF/services/org.junit.platform.launcher.TestExecutionListener"]
         self.assertEqual(names, heads + sorted(names[3:]))
         self.assertEqual(forms, {(3, 0o100644, zipfile.ZIP_STORED, (1980, 1, 1, 0, 0, 0))})
-        self.assertEqual({re.sub(r"(\$\w+)?\.class$", "", name) for name in names[3:]}, {f"testkit/{it}" for it in ("RecordListener", "ResultsWriter", "RecordAssert")})
+        self.assertEqual({re.sub(r"(\$\w+)?\.class$", "", name) for name in names[3:]}, {f"testkit/{it}" for it in ("RecordListener", "RecordFile", "ResultsWriter", "RecordAssert", "RecordSource", "ResultsAssert")})
         self.assertEqual({found[name][4:8] for name in names[3:]}, {b"\0\0\0\x34"}, "Java 8")
-        wanted = f"Manifest-Version: 1.0\r\nImplementation-Title: testkit\r\nImplementation-Version: {VERSION}\r\n\r\n".encode()
+        wanted = f"Manifest-Version: 1.0\r\nAutomatic-Module-Name: testkit\r\nImplementation-Title: testkit\r\nImplementation-Version: {VERSION}\r\n\r\n".encode()
         self.assertEqual([found[it] for it in heads], [wanted, read(self.of.path("LICENSE")), b"testkit.RecordListener\n"])
+
+    @unittest.skipUnless(HAS_JAVA, "no javac")
+    def test_maven(self):
+        """The same jar stands in a repository of Maven, with its coordinates, and with sums, as those who download it check."""
+        self.assertEqual(read(f"{self.tar}/{MAVEN}.jar"), read(f"{self.tar}/{JAR}"))
+        coordinates = re.findall(r"<(groupId|artifactId|version)>(.*)</", read(f"{self.tar}/{MAVEN}.pom").decode())
+        self.assertEqual(coordinates, [("groupId", "testkit"), ("artifactId", "testkit-listener"), ("version", VERSION)])
+        for name in IN_MAVEN[::3]:
+            data = read(f"{self.tar}/{name}")
+            sums = [hashlib.md5(data).hexdigest(), hashlib.sha1(data).hexdigest()]
+            self.assertEqual([read(f"{self.tar}/{name}.{kind}").decode() for kind in ("md5", "sha1")], sums, name)
 
     @unittest.skipUnless(HAS_JAVA and os.path.exists(CONSOLE), "no javac")
     def test_jar_in_the_console(self):

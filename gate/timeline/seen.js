@@ -43,6 +43,8 @@
   const bars = areas();
   saw.bars = Object.fromEntries(Object.entries(bars).map(([ending, found]) => [ending, found.length]));
   saw.slowest = listed("slowest");
+  const ids = ["[class:a.B]/[nested-class:C]/[test-template:d(int)]/[test-template-invocation:#2]", "[class:a.B]", "[t:1]"];
+  saw.sources = ids.map((id) => sourceText(`[engine:e]/${id}`));
   saw.gaps = listed("gaps");
   if (bars.failed.length) {
     canvas.setPointerCapture = () => {};

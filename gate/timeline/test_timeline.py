@@ -7,7 +7,9 @@ import json
 import os
 import re
 
-from fixtures import PROGRAM, TOP, WithProgram, folder, needs, run
+from operator import itemgetter
+
+from fixtures import PROGRAM, TOP, WithProgram, folder, needs, parameterized, run, write
 
 HERE = os.path.dirname(os.path.realpath(__file__))
 TIMELINE = f"{TOP}/tools/timeline"
@@ -43,6 +45,40 @@ No name is on a bar, so that each bar is one area of its color.
 """
 
 
+def columns(*names):
+    """Of the data of a page these columns of each execution."""
+    return lambda data: [[row[data["columns"].index(name)] for name in names] for row in data["executions"]]
+
+
+def of_page(key):
+    return lambda data: data[key]
+
+
+ONE = nodes("T 1")
+ONE_RUN = ONE + events("1 1 5 start", "1 1 7 finish|ok")
+DATA = [
+    ("no unit", ONE_RUN, [], of_page("unit"), 0),
+    ("nanoseconds", ONE_RUN, ["--unit", "nanoseconds"], of_page("unit"), 1),
+    ("milliseconds", ONE_RUN, ["--unit", "milliseconds"], of_page("unit"), 1_000_000),
+    ("seconds", ONE_RUN, ["--unit", "seconds"], of_page("unit"), 1_000_000_000),
+    (
+        *("a test with a test below it", nodes("B b", "T b/1") + events("1 1 0 start", "1 2 3 start", "1 2 5 finish|ok", "1 1 9 finish|ok"), []),
+        *(of_page("slowest"), [[1, "9"], [0, "2"]]),
+    ),
+    ("a finish on another worker", ONE + events("1 1 5 start", "3 1 7 finish|ok"), [], columns("worker", "worker_of_end", "end"), [[1, 3, 2]]),
+    (
+        *("ties", ONE + events("1 1 5 start", "1 1 5 finish|ok", "1 1 7 start", "1 1 7 report", "1 1 7 skip|", "1 1 7 start", "1 1 8 finish|ok"), []),
+        *(columns("begin", "end"), [[0, 0.5], [2.5, 2.5], [2.75, 3], [2, 2.5]]),
+    ),
+    ("stamps that fall", ONE + events("1 1 7 start", "1 1 5 finish|ok"), [], lambda it: [it["times"], columns("begin", "end")(it)], [False, [[0, 1]]]),
+    (
+        *("entries", ONE + events("1 1 5 start", "1 1 6 report|a|b|c|d", "1 1 6 report", "1 1 7 finish|ok", "1 1 8 report|e|f"), []),
+        *(columns("entries"), [[[["a", "b", "c", "d"], []]]]),
+    ),
+]
+"""What the data of a page have: the name, the record, the words, what is looked at, and what it has to be."""
+
+
 class Page(WithProgram):
     """What comes without a browser."""
 
@@ -57,7 +93,9 @@ class Page(WithProgram):
                 self.assertEqual((ran.status, ran.output, ran.error), (2, b"", line))
 
     def test_words(self):
-        for words in (["run.html"], ["--unit", "hours"], ["--unit"]):
+        ran = self.drawn(MIXED, "/none.record")
+        self.assertEqual((ran.status, ran.output, ran.error.count(b"\n")), (70, b"", 1), ran)
+        for words in (["--unit", "hours"], ["--unit"]):
             with self.subTest(words):
                 ran = self.drawn(MIXED, *words)
                 self.assertEqual((ran.status, ran.output), (2, b""))
@@ -74,11 +112,55 @@ class Page(WithProgram):
                 ran = self.drawn(MIXED, program=program)
                 self.assertEqual((ran.status, ran.output, ran.error.count(b"\n")), (70, b"", 1), ran)
 
+    def data(self, drawn):
+        """The data of a page that was drawn."""
+        page = drawn.output.decode("ascii")
+        return json.loads(re.search(r'<script type="application/json" id="data">(.*?)</script>', page, re.DOTALL)[1])
+
+    @parameterized(DATA, name=itemgetter(0))
+    def test_data(self, row):
+        _, record, words, look, wanted = row
+        self.assertEqual(look(self.data(self.drawn(record, *words))), wanted)
+
+    def files(self, *records):
+        """Files with these records."""
+        at = folder(self)
+        for number, record in enumerate(records):
+            write(f"{at}/{number}.record", record)
+        return [f"{at}/{number}.record" for number in range(len(records))]
+
+    def test_several_records(self):
+        """They lie on one axis, each in lanes of its own, with their own keys and positions."""
+        other = ONE + events("1 1 4 start", "1 1 9 finish|fail|boom")
+        data = self.data(self.drawn("", *self.files(ONE_RUN, other)))
+        looked = columns("ending", "first", "last", "start", "stop", "begin", "end", "row")(data)
+        self.assertEqual(looked, [["succeeded", 0, 1, "1", "3", 1, 3, 0], ["failed", 0, 1, "0", "5", 0, 5, 1]])
+        self.assertEqual([(it["record"], it["worker"]) for it in data["lanes"]], [(0, 1), (1, 1)])
+        self.assertEqual(data["records"], ["0.record", "1.record"])
+
+    def test_trace(self):
+        """A process for each record and a thread for each worker; what overlaps in one stands beside it."""
+        one = ONE + events("1 1 1000 start", "1 1 1001 report|k|v", "2 1 1004 finish|fail|boom", "1 1 1005 start")
+        two = nodes("T 1", "T 2", "T 3") + events("1 1 1001 start", "1 2 1002 start", "1 1 1003 finish|ok", "1 2 1006 finish|ok", "1 3 1006 skip|off")
+        ran = run([f"{TOP}/tools/trace", *self.files(one, two)], env={**os.environ, "PROGRAM": PROGRAM})
+        self.assertEqual(ran.status, 0, ran)
+        found = json.loads(ran.output)["traceEvents"]
+        names = [(it["pid"], it["tid"], it["args"]["name"]) for it in found if it["ph"] == "M"]
+        threads = [(0, 1, "worker 1"), (1, 1, "worker 1"), (1, 17, "worker 1, beside it 1")]
+        self.assertEqual(names, [(0, 0, "0.record"), (1, 0, "1.record"), *threads])
+        slices = [(it["pid"], it["tid"], it["ph"], it["ts"], it.get("dur"), it["cat"]) for it in found if it["ph"] != "M"]
+        in_one = [(0, 1, "X", 0, 4, "failed"), (1, 1, "X", 1, 2, "succeeded"), (1, 17, "X", 2, 4, "succeeded"), (0, 1, "B", 5, None, "unfinished")]
+        self.assertEqual(slices, [*in_one, (1, 1, "i", 6, None, "skipped")])
+        failed = next(it for it in found if it.get("cat") == "failed")
+        wanted = {"id": "[engine:e]/[x:1]", "type": "test", "ending": "failed", "event": 0, "last event": 2, "message": "boom"}
+        self.assertEqual(failed["args"], {**wanted, "finished by worker": 2, "entries": [{"k": "v"}]})
+
     def test_texts(self):
         """No text of a record gets into the page as markup, and the policy names the page's own script and style alone."""
-        page = self.drawn(MIXED.replace("[x:3]|\n", f"[x:3]|{HOSTILE}\n")).output.decode("ascii")
+        drawn = self.drawn(MIXED.replace("[x:3]|\n", f"[x:3]|{HOSTILE}\n"))
+        page = drawn.output.decode("ascii")
         data = re.search(r'<script type="application/json" id="data">(.*?)</script>', page, re.DOTALL)[1]
-        self.assertIn(HOSTILE, [name for _, _, name, _ in json.loads(data)["descriptors"]])
+        self.assertIn(HOSTILE, [it[2] for it in json.loads(data)["descriptors"]])
         self.assertFalse(re.search("[<>&]", data))
         texts = [re.search(rf"<{kind}>(.*?)</{kind}>", page, re.DOTALL)[1] for kind in ("script", "style")]
         hashes = [base64.b64encode(hashlib.sha256(text.encode()).digest()).decode() for text in texts]
@@ -124,7 +206,7 @@ class Browser(WithProgram):
         """It draws itself, and nothing is said on the console: nothing failed, and nothing was forbidden."""
         self.assertIn(b'data-drawn="yes"', self.opened.output)
         self.assertNotIn(b":CONSOLE", self.opened.error)
-        self.assertEqual(self.saw["summary"], "7 executions, 3 workers, 14 events; 1 descriptor without an execution")
+        self.assertEqual(self.saw["summary"], "5 tests, 1 failed; 7 executions, 3 workers, 14 events; 1 descriptor without an execution")
 
     def test_bars(self):
         """A bar is seen for each execution, in the color of its ending, and the legend counts them."""
@@ -150,6 +232,7 @@ class Browser(WithProgram):
 
     def test_longest(self):
         """It lists the slowest tests and the longest gaps, the longest first, and shows the one that is chosen."""
-        self.assertEqual(self.saw["slowest"], ["65 \u00b5s  ", "18 \u00b5s  ", "5 \u00b5s  ", "1 \u00b5s  "])
-        self.assertEqual(self.saw["gaps"], ["20 \u00b5s  ", "9 \u00b5s  ", "2 \u00b5s  ", "1 \u00b5s  "])
+        self.assertEqual(self.saw["slowest"], ["65 \u00b5s   x:3", "18 \u00b5s   x:1", "5 \u00b5s   x:5", "1 \u00b5s   x:2"])
+        self.assertEqual(self.saw["gaps"], ["20 \u00b5s   x:2", "9 \u00b5s   x:5", "2 \u00b5s   x:1", "1 \u00b5s   x:6"])
+        self.assertEqual(self.saw["sources"], ["B.C.d #2", "B", "t:1"])
         self.assertEqual((self.saw["longest"]["id"], self.saw["longest"]["duration"]), ("[engine:e]/[x:3]", "it never finished"))

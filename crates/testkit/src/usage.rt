@@ -3,22 +3,22 @@
 /// What is printed below the fault line where the words name no command or no question: the text of
 /// `usage.txt` in the crate's folder, which `./testkit` prints where it has no program to ask.
 pub(crate) const USAGE: &str = "usage:
-  testkit ask stats [NAME=N ..]                  < RECORD   nine counts; each N that differs is a mismatch
-  testkit ask count SELECTION                    < RECORD   how many events a selection has
-  testkit ask list SELECTION [CONDITION ..]      < RECORD   the events that meet all conditions
-  testkit ask executions                         < RECORD   key, ending, first and last stamp of each execution
-  testkit ask match MODE [CONDITION ..]          < RECORD   yes, or the first condition that fails
-  testkit ask lifecycle                          < RECORD   does each descriptor start, finish and nest as it may?
-  testkit ask exclusive CONDITION [CONDITION]    < RECORD   did tests that share a resource keep apart?
-  testkit ask report                             < RECORD   each id's events, without workers, keys and stamps
-  testkit ask explain QUESTION ..                < RECORD   an answer, and why
-  testkit replay                                 < REPLAY   plays a script of the event queue, prints the record
-  testkit run [--workers N]                      < PLAN     runs a plan with 1 to 15 workers, prints its report
+  testkit ask stats [SELECTION] [NAME=N ..]            < RECORD   nine counts; each N that differs is a mismatch
+  testkit ask count SELECTION                          < RECORD   how many events a selection has
+  testkit ask list SELECTION [CONDITION ..]            < RECORD   the events that meet all conditions
+  testkit ask executions [SELECTION]                   < RECORD   key, ending, first and last stamp of each execution
+  testkit ask match [SELECTION] MODE [CONDITION ..]    < RECORD   yes, or the first condition that fails
+  testkit ask lifecycle                                < RECORD   does each descriptor start, finish and nest as it may?
+  testkit ask exclusive CONDITION [CONDITION]          < RECORD   did tests that share a resource keep apart?
+  testkit ask report                                   < RECORD   each id's events, without workers, keys and stamps
+  testkit ask explain QUESTION ..                      < RECORD   an answer, and why
+  testkit replay                                       < REPLAY   plays a script of the event queue, prints the record
+  testkit run [--workers N] [--record]                 < PLAN     runs a plan with 1 to 15 workers, prints its report or its record
 
 SELECTION  all, tests, containers, or a NAME
 NAME       skipped, started, finished, aborted, succeeded, failed, reporting, dynamic, files
 MODE       exactly, loosely, in-order
 CONDITION  as test, failed, 'failed(TEXT)', 'all(test,id(TEXT))'; docs/FORMATS.md has all
-QUESTION   a MODE with conditions; list, executions, lifecycle or exclusive with its own words
+QUESTION   the words of match; stats, list, executions, lifecycle or exclusive with its own words
 status     0 done, or yes; 1 no, or an expectation fails; 2 bad words or input; 3 a failure
 ";

@@ -4,7 +4,6 @@ import static java.nio.charset.StandardCharsets.UTF_8;
 
 import java.io.File;
 import java.io.IOException;
-import java.io.UncheckedIOException;
 import java.nio.charset.Charset;
 import java.nio.file.Files;
 import java.nio.file.Path;
@@ -12,27 +11,32 @@ import java.util.ArrayList;
 import java.util.Arrays;
 import java.util.Collections;
 import java.util.List;
-import java.util.Set;
-import java.util.concurrent.ConcurrentHashMap;
 import java.util.concurrent.TimeUnit;
+import java.util.regex.Matcher;
+import java.util.regex.Pattern;
+import java.util.stream.Collectors;
 
-import org.junit.platform.testkit.engine.EngineExecutionResults;
+import org.opentest4j.AssertionFailedError;
+import org.opentest4j.TestAbortedException;
 
 /**
- * Assertions about the record of a run, which the program {@code testkit} answers.
+ * Assertions about the record of a run, which the program {@code testkit} answers. {@link ResultsAssert} begins them about results of
+ * EngineTestKit.
  *
  * <pre>{@code
- * RecordAssert.assertThat(EngineTestKit.engine("my-engine").execute())
+ * RecordAssert.assertThat(Paths.get("target/run-1.record"))
  *         .keepsLifecycle()
- *         .hasStatistics("failed=1", "skipped=0")
+ *         .exclusive(all(isTest(), hasId("db")))
+ *         .tests().hasStatistics("failed=1", "skipped=0")
  *         .matchesInOrder(all(hasName("one"), hasStarted()), hasFailed("boom"));
  * }</pre>
  *
- * <p>Where the program says no, an {@link AssertionError} has its answer with its explanation. Where it refuses the words or the
- * record, that is an {@link IllegalArgumentException}; where it can't be run, breaks or takes too long, an {@link IllegalStateException}.
+ * <p>Where the program says no, an {@link AssertionFailedError} has its answer with its explanation. Where there is no program, or none
+ * for this machine, the test is aborted. Words or a record that the program refuses are an {@link IllegalArgumentException}; a program
+ * that breaks or takes too long is an {@link IllegalStateException}.
  *
- * <p>A condition is a text ({@code docs/FORMATS.md}); {@link Conditions} writes it. The system property {@link #PROGRAM_PROPERTY} names
- * the program, which is else {@code testkit} on the path.
+ * <p>A condition is a text ({@code docs/FORMATS.md}); {@link Conditions} writes it. In each message conditions are counted from 0. The
+ * system property {@link #PROGRAM_PROPERTY} names the program, which is else {@code testkit} on the path.
  */
 public final class RecordAssert {
 
@@ -43,12 +47,14 @@ public final class RecordAssert {
 
     private static final String PROGRAM = "testkit";
     private static final int SECONDS = 60;
-    /** The records of results, of which only those that an assertion refused stay when the process ends. */
-    private static final Set<Path> TEMPORARY = ConcurrentHashMap.newKeySet();
-
-    static {
-        Runtime.getRuntime().addShutdownHook(new Thread(() -> TEMPORARY.forEach(path -> path.toFile().delete())));
-    }
+    /** The statuses of a shell, to which Java hands what isn't a program of this machine. */
+    private static final int NOT_A_PROGRAM = 126;
+    private static final int NO_PROGRAM = 127;
+    private static final String ALL = "all";
+    /** What the program says of a condition that it refuses, with the number of its word. */
+    private static final Pattern REFUSED_CONDITION = Pattern.compile("testkit: condition (\\d+) is (.*)\n");
+    /** What a shell takes for one word as it stands. */
+    private static final Pattern PLAIN_WORD = Pattern.compile("[\\w./:=@%+,-]+");
 
     /** How a process ended, and what it wrote. */
     private static final class Ran {
@@ -64,13 +70,14 @@ public final class RecordAssert {
         }
     }
 
-    private final Path record;
-    /** The ids that events name before anybody has registered them. */
-    private final List<String> unregistered;
+    private final RecordSource source;
+    private final String selection;
+    private final String description;
 
-    private RecordAssert(Path record, List<String> unregistered) {
-        this.record = record;
-        this.unregistered = unregistered;
+    RecordAssert(RecordSource source, String selection, String description) {
+        this.source = source;
+        this.selection = selection;
+        this.description = description;
     }
 
     /** Begins assertions about a record that stands in a file. */
@@ -78,96 +85,182 @@ public final class RecordAssert {
         if (!Files.isRegularFile(record)) {
             throw new IllegalArgumentException("there is no record " + record);
         }
-        return new RecordAssert(record, Collections.emptyList());
+        return new RecordAssert(new RecordSource(record, Collections.emptyList()), ALL, "");
     }
 
-    /** Begins assertions about results of EngineTestKit, whose record is written to a temporary file. */
-    public static RecordAssert assertThat(EngineExecutionResults results) {
-        try {
-            Path record = Files.createTempFile("testkit-", ".record");
-            TEMPORARY.add(record);
-            if (!ResultsWriter.writeWhole(results, record.toString())) {
-                throw new IllegalStateException("the record of these results isn't whole, as standard error says");
-            }
-            return new RecordAssert(record, ResultsWriter.unregistered(results));
-        } catch (IOException fault) {
-            throw new UncheckedIOException(fault);
-        }
+    /** Returns the same assertions with this text at the beginning of each message. */
+    public RecordAssert describedAs(String text) {
+        return new RecordAssert(source, selection, "[" + text + "] ");
+    }
+
+    /**
+     * Returns assertions of which statistics, matches, counts and lists see the events alone that the selection keeps, as {@code failed}.
+     * The others always ask about the whole record.
+     */
+    public RecordAssert on(String events) {
+        return new RecordAssert(source, events, description);
+    }
+
+    /** Does {@link #on} with the events of tests. */
+    public RecordAssert tests() {
+        return on("tests");
+    }
+
+    /** Does {@link #on} with the events of containers. */
+    public RecordAssert containers() {
+        return on("containers");
+    }
+
+    /** Returns the path of the record, as for {@code testkit-timeline}. Of results it is there as long as they are. */
+    public Path recordPath() {
+        return source.path();
     }
 
     /** Asserts that each descriptor starts, finishes and nests as a listener may expect, and was registered before its first event. */
     public RecordAssert keepsLifecycle() {
-        if (!unregistered.isEmpty()) {
-            throw refused("nobody registered " + String.join(", ", unregistered) + " before the first event");
+        if (!source.unregistered().isEmpty()) {
+            throw refused("nobody registered " + String.join(", ", source.unregistered()) + " before the first event");
         }
-        return ask("yes", Arrays.asList("explain", "lifecycle"));
+        return ask("yes", 0, "explain", "lifecycle");
     }
 
     /** Asserts that the events are so many, as {@code "failed=1"}. */
     public RecordAssert hasStatistics(String... counts) {
-        return ask("skipped ", question(counts, "stats"));
+        return ask("skipped ", counts.length, question(counts, "explain", "stats", selection));
     }
 
     /** Asserts that there are as many events as conditions, and each condition holds of the event in its place. */
     public RecordAssert matchesExactly(String... conditions) {
-        return ask("yes", question(conditions, "explain", "exactly"));
+        return ask("yes", conditions.length, question(conditions, "explain", selection, "exactly"));
     }
 
     /** Asserts that each condition holds of some event. */
     public RecordAssert matchesLoosely(String... conditions) {
-        return ask("yes", question(conditions, "explain", "loosely"));
+        return ask("yes", conditions.length, question(conditions, "explain", selection, "loosely"));
     }
 
     /** Asserts that the conditions hold of events that follow each other, in this order. */
     public RecordAssert matchesInOrder(String... conditions) {
-        return ask("yes", question(conditions, "explain", "in-order"));
+        return ask("yes", conditions.length, question(conditions, "explain", selection, "in-order"));
     }
 
-    /** Asserts that no two executions overlap of those whose start meets the condition. */
+    /** Asserts that there are two executions whose start meets the condition, and no two of these overlap. */
     public RecordAssert exclusive(String writers) {
-        return ask("yes", question(new String[] {writers}, "explain", "exclusive"));
+        return ask("yes", 1, question(new String[] {writers}, "explain", "exclusive"));
     }
 
-    /** Asserts that no execution whose start meets the first condition overlaps another one that meets the first or the second. */
+    /**
+     * Asserts that no execution whose start meets the first condition overlaps another one that meets the first or the second, and that
+     * there are two such executions.
+     */
     public RecordAssert exclusive(String writers, String readers) {
-        return ask("yes", question(new String[] {writers, readers}, "explain", "exclusive"));
+        return ask("yes", 2, question(new String[] {writers, readers}, "explain", "exclusive"));
     }
 
-    /** Returns the words of a question, which has to ask for something: without a condition the program says yes. */
-    private static List<String> question(String[] asked, String... first) {
-        if (asked.length == 0 || Arrays.asList(asked).contains(null)) {
-            throw new IllegalArgumentException(String.join(" ", first) + " needs at least one word, and each has to be there");
+    /** Asserts that the condition holds of so many events. */
+    public RecordAssert hasCount(long count, String condition) {
+        List<String> found = list(condition);
+        if (found.size() != count) {
+            throw refused(count + " events wanted, " + found.size() + " found: " + command(listing(condition)) + "\n" + String.join("\n", found));
         }
+        return this;
+    }
+
+    /** Returns a line for each event of which each condition holds: its position, its line in the record, its descriptor's id and name. */
+    public List<String> list(String... conditions) {
+        Ran ran = answer(0, conditions.length, listing(conditions));
+        return ran.output.isEmpty() ? Collections.emptyList() : Arrays.asList(ran.output.split("\n"));
+    }
+
+    /** Prints {@link #list} on standard output. */
+    public RecordAssert debug() {
+        list().forEach(System.out::println);
+        return this;
+    }
+
+    private String[] listing(String... conditions) {
+        return joined(conditions, "explain", "list", selection);
+    }
+
+    /** Returns the words of a question, which has to ask for something: without a condition the program may say yes. */
+    private static String[] question(String[] asked, String... first) {
+        if (asked.length == 0) {
+            throw new IllegalArgumentException(String.join(" ", first) + " needs at least one word more");
+        }
+        return joined(asked, first);
+    }
+
+    private static String[] joined(String[] asked, String... first) {
         List<String> words = new ArrayList<>(Arrays.asList(first));
         words.addAll(Arrays.asList(asked));
-        return words;
+        if (words.contains(null)) {
+            throw new IllegalArgumentException("a word of " + words + " isn't there");
+        }
+        return words.toArray(new String[0]);
     }
 
-    /** Asks the program a question, whose yes begins with {@code yes}. */
-    private RecordAssert ask(String yes, List<String> question) {
-        List<String> words = new ArrayList<>(Arrays.asList(System.getProperty(PROGRAM_PROPERTY, PROGRAM), "ask"));
-        words.addAll(question);
-        String called = String.join(" ", words) + " < " + record;
-        Ran ran;
-        try {
-            ran = run(words);
-        } catch (IOException | RuntimeException fault) {
-            throw new IllegalStateException(called + ": " + fault.getMessage() + " (" + PROGRAM_PROPERTY + " names the program)", fault);
-        }
+    /** Asks the program a question that ends with so many conditions, whose yes begins with {@code yes}. */
+    private RecordAssert ask(String yes, int conditions, String... question) {
+        Ran ran = answer(1, conditions, question);
         if (ran.status == 0 && ran.output.startsWith(yes)) {
             return this;
         }
         if (ran.status == 1 && !ran.output.isEmpty()) {
-            throw refused(called + "\n" + ran.output);
+            throw refused(command(question) + "\n" + ran.output);
         }
-        String why = called + " ends with status " + ran.status + ": " + ran.errors + ran.output;
-        throw ran.status == 2 ? new IllegalArgumentException(why) : new IllegalStateException(why);
+        throw new IllegalStateException(ending(question, ran));
+    }
+
+    /** Returns the program's answer to a question that ends with so many conditions; one of a greater status is none. */
+    private Ran answer(int mostStatus, int conditions, String... question) {
+        Ran ran;
+        try {
+            ran = run(words(question));
+        } catch (IOException | RuntimeException fault) {
+            if (fault instanceof TestAbortedException) {
+                throw (TestAbortedException) fault;
+            }
+            throw new IllegalStateException(description + command(question) + ": " + fault.getMessage(), fault);
+        }
+        if (ran.status == NOT_A_PROGRAM || ran.status == NO_PROGRAM) {
+            throw withoutProgram("Cannot run program \"" + words().get(0) + "\": " + ran.errors);
+        }
+        if (ran.status == 2) {
+            Matcher refusal = REFUSED_CONDITION.matcher(ran.errors);
+            // (the program counts the words after `explain`)
+            int first = question.length - conditions - 1;
+            String why = refusal.matches() ? "condition " + (Integer.parseInt(refusal.group(1)) - first) + " is " + refusal.group(2) : ran.errors;
+            throw new IllegalArgumentException(description + command(question) + " is refused: " + why);
+        }
+        if (ran.status < 0 || ran.status > mostStatus) {
+            throw new IllegalStateException(ending(question, ran));
+        }
+        return ran;
+    }
+
+    private String ending(String[] question, Ran ran) {
+        return description + command(question) + " ends with status " + ran.status + ": " + ran.errors + ran.output;
+    }
+
+    private static List<String> words(String... question) {
+        List<String> words = new ArrayList<>(Arrays.asList(System.getProperty(PROGRAM_PROPERTY, PROGRAM), "ask"));
+        words.addAll(Arrays.asList(question));
+        return words;
+    }
+
+    /** Returns the command of a question, as a shell takes it. */
+    private String command(String... question) {
+        return words(question).stream().map(RecordAssert::quoted).collect(Collectors.joining(" ")) + " < " + quoted(source.path().toString());
+    }
+
+    private static String quoted(String word) {
+        return PLAIN_WORD.matcher(word).matches() ? word : "'" + word.replace("'", "'\\''") + "'";
     }
 
     /** Returns the error of an assertion that doesn't hold, after which the record stays. */
-    private AssertionError refused(String why) {
-        TEMPORARY.remove(record);
-        return new AssertionError(why);
+    private AssertionFailedError refused(String why) {
+        source.keep();
+        return new AssertionFailedError(description + why);
     }
 
     /** Runs a program with the record as its input. */
@@ -182,7 +275,7 @@ public final class RecordAssert {
         File output = File.createTempFile("testkit-", ".output");
         File errors = File.createTempFile("testkit-", ".errors");
         try {
-            Process process = new ProcessBuilder(words).redirectInput(record.toFile()).redirectOutput(output).redirectError(errors).start();
+            Process process = start(new ProcessBuilder(words).redirectInput(source.path().toFile()).redirectOutput(output).redirectError(errors));
             int seconds = Integer.getInteger(SECONDS_PROPERTY, SECONDS);
             try {
                 if (!process.waitFor(seconds, TimeUnit.SECONDS)) {
@@ -201,6 +294,20 @@ public final class RecordAssert {
         }
     }
 
+    /** Starts the program, or aborts the test where there is none. */
+    private Process start(ProcessBuilder program) {
+        try {
+            return program.start();
+        } catch (IOException fault) {
+            throw withoutProgram(fault.getMessage());
+        }
+    }
+
+    private TestAbortedException withoutProgram(String why) {
+        return new TestAbortedException(description + why + ": on Linux x86-64 install testkit_VERSION_amd64.deb, or set the system property "
+                + PROGRAM_PROPERTY + " to the program testkit of testkit-VERSION-x86_64-linux.tar.gz");
+    }
+
     private static String text(File file) throws IOException {
         return new String(Files.readAllBytes(file.toPath()), UTF_8);
     }
@@ -212,6 +319,16 @@ public final class RecordAssert {
     public static final class Conditions {
 
         private Conditions() {
+        }
+
+        /** One of the segments of the descriptor's id has this tag and this value, both whole. */
+        public static String hasSegment(String tag, String value) {
+            return atom("segment", tag, value);
+        }
+
+        /** The event is a finish with a message that contains this text. */
+        public static String hasMessage(String part) {
+            return atom("message", part);
         }
 
         /** The event's descriptor is a test. */
@@ -311,7 +428,7 @@ public final class RecordAssert {
             List<String> escaped = new ArrayList<>();
             for (String text : texts) {
                 // (a record has U+FFFD too in place of an unpaired surrogate)
-                String paired = RecordListener.paired(text);
+                String paired = RecordFile.paired(text);
                 escaped.add(paired.replace("%", "%25").replace("(", "%28").replace(")", "%29").replace(",", "%2C"));
             }
             return name + "(" + String.join(",", escaped) + ")";

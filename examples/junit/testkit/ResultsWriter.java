@@ -22,24 +22,18 @@ import org.junit.platform.testkit.engine.EventType;
  * Writes a record text of version 2 ({@code docs/FORMATS.md}) of a run of {@code EngineTestKit}.
  *
  * <p>The record has each event of {@code allEvents}, in that order. The results don't say which threads called, so each entry
- * is of worker 1. A stamp is the time since the first event, in microseconds.
+ * is of worker 1. A stamp is the event's time, in microseconds since 1970.
  */
 public final class ResultsWriter {
 
     /** The listener to which the events are reported once more, each at its own time. */
     private static class Replay extends RecordListener {
 
-        private final Instant first;
         private Instant now;
 
-        Replay(Instant first) {
-            this.first = first;
-            now = first;
-        }
-
         @Override
-        long nanoTime() {
-            return first.until(now, ChronoUnit.NANOS);
+        long microseconds() {
+            return ChronoUnit.MICROS.between(Instant.EPOCH, now);
         }
 
         @Override
@@ -76,8 +70,8 @@ public final class ResultsWriter {
     }
 
     /**
-     * Writes the record of {@code results} to {@code path}, over what is there, and returns whether it has each event, and each event's
-     * id was known before it. Standard error names the others, as {@link #unregistered} does.
+     * Writes the record of {@code results} to {@code path}, over a record there, and returns whether it has each event, and each event's
+     * id was known before it. The logger of {@link RecordListener} names the others, as {@link #unregistered} does.
      *
      * <p>The numbers in a path, and what ends a recording early, are as {@link RecordListener} has them; what a listener of this process
      * has recorded there stays. The system property {@link RecordListener#STAMPS_PARAMETER} says what the stamps are.
@@ -93,10 +87,10 @@ public final class ResultsWriter {
         List<Event> events = results.allEvents().list();
         Map<UniqueId, TestIdentifier> identifiers = discovered(events);
         identifiers.putAll(unregistered(events));
-        Replay replay = new Replay(events.isEmpty() ? Instant.EPOCH : events.get(0).getTimestamp());
-        replay.begin(path, System.getProperty(RecordListener.STAMPS_PARAMETER, ""), identifiers);
+        Replay replay = new Replay();
+        replay.attempt(() -> replay.begin(path, System.getProperty(RecordListener.STAMPS_PARAMETER, ""), identifiers));
         events.forEach(replay::report);
-        replay.end();
+        replay.attempt(replay::end);
         return replay.isWhole();
     }
 

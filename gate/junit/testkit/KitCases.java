@@ -1,7 +1,6 @@
 package testkit;
 
 import java.io.File;
-import java.io.PrintStream;
 import java.util.LinkedHashMap;
 import java.util.Map;
 
@@ -28,7 +27,6 @@ public class KitCases {
     private static final Map<String, Case> CASES = new LinkedHashMap<>();
 
     static {
-        CASES.put("kit-kinds", (path, name) -> write(path, name, ListenerCases::kindsTree, ListenerCases::kindsScript));
         CASES.put("kit-no-event", (path, name) -> write(path, name, root -> { }, (calls, root) -> { }));
         CASES.put("kit-endings", KitCases::endings);
         CASES.put("kit-unregistered", KitCases::unregistered);
@@ -37,7 +35,7 @@ public class KitCases {
         CASES.put("kit-positions", KitCases::positions);
         CASES.put("kit-two-results", KitCases::twoResults);
         CASES.put("kit-over-listener", KitCases::overListener);
-        CASES.put("kit-bad-path", (path, name) -> write("nowhere/at/all.record", name, root -> { }, (calls, root) -> calls.start(root)));
+        CASES.put("kit-bad-path", (path, name) -> write("/", name, root -> { }, (calls, root) -> calls.start(root)));
     }
 
     private KitCases() {
@@ -46,16 +44,8 @@ public class KitCases {
     /** Runs the cases {@code arguments[1]} and so on, and leaves what they made in the folder {@code arguments[0]}. */
     public static void main(String[] arguments) throws Exception {
         for (int i = 1; i < arguments.length; i++) {
-            String place = arguments[0] + File.separator + arguments[i];
-            PrintStream errors = System.err;
-            try (PrintStream messages = new PrintStream(place + ".messages", "UTF-8")) {
-                System.setErr(messages);
-                long begun = System.nanoTime();
-                CASES.get(arguments[i]).run(place + ".record", arguments[i]);
-                System.out.println(arguments[i] + " microseconds " + (System.nanoTime() - begun) / 1_000);
-            } finally {
-                System.setErr(errors);
-            }
+            String name = arguments[i];
+            ListenerCases.run(arguments[0], name, () -> CASES.get(name).run(arguments[0] + File.separator + name + ".record", name));
         }
     }
 

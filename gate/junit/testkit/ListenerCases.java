@@ -1,22 +1,34 @@
 package testkit;
 
+import static java.nio.charset.StandardCharsets.UTF_8;
+
 import java.io.File;
 import java.io.IOException;
 import java.io.OutputStream;
 import java.io.PrintStream;
 import java.io.UncheckedIOException;
+import java.lang.reflect.Method;
+import java.net.URL;
+import java.net.URLClassLoader;
 import java.nio.file.Files;
 import java.nio.file.Path;
 import java.nio.file.Paths;
+import java.time.Instant;
+import java.time.temporal.ChronoUnit;
 import java.util.ArrayList;
 import java.util.Arrays;
 import java.util.Collections;
 import java.util.LinkedHashMap;
 import java.util.List;
 import java.util.Map;
-import java.util.concurrent.BrokenBarrierException;
+import java.util.concurrent.CountDownLatch;
 import java.util.concurrent.CyclicBarrier;
+import java.util.concurrent.TimeUnit;
+import java.util.function.Consumer;
+import java.util.logging.Handler;
 import java.util.logging.LogManager;
+import java.util.logging.LogRecord;
+import java.util.logging.Logger;
 
 import org.junit.platform.engine.TestDescriptor.Type;
 import org.junit.platform.engine.TestEngine;
@@ -26,7 +38,6 @@ import org.junit.platform.engine.reporting.ReportEntry;
 import org.junit.platform.launcher.Launcher;
 import org.junit.platform.launcher.TestExecutionListener;
 import org.junit.platform.launcher.TestIdentifier;
-import org.junit.platform.launcher.TestPlan;
 import org.junit.platform.launcher.core.LauncherConfig;
 import org.junit.platform.launcher.core.LauncherDiscoveryRequestBuilder;
 import org.junit.platform.launcher.core.LauncherFactory;
@@ -38,8 +49,8 @@ import testkit.ScriptedEngine.Tree;
 /**
  * Runs of small engines, each recorded, which do what Jupiter seldom or never does.
  *
- * <p>{@code ListenerCases FOLDER NAME..} leaves of each case a record, what went to standard error as {@code NAME.messages}, and on
- * standard output lines {@code NAME FACT VALUE}. {@code expected.txt} says what has to come.
+ * <p>{@code ListenerCases FOLDER NAME..} leaves of each case a record, what was logged or went to standard error as {@code NAME.messages},
+ * and on standard output lines {@code NAME FACT VALUE}. {@code expected.txt} says what has to come.
  */
 public class ListenerCases {
 
@@ -49,16 +60,15 @@ public class ListenerCases {
     /** How many launches begin at once, and how often. */
     private static final int LAUNCHES = 8;
     private static final int ROUNDS = 20;
+    /** How many threads forward what they write on standard error. */
+    private static final int FORWARDING = 24;
+    private static final int MAX_FIELD_BYTES = 65_536;
+    private static final int MIB = 1 << 20;
     private static final int MAX_DESCRIPTORS = 65_536;
     private static final int MAX_TEXT_BYTES = 16 << 20;
     /** Each escape, control characters, several alphabets, and surrogates in a pair and alone. */
-    private static final String[] TEXTS = {"a b", "a\nb\n", "a\tb\rc\u0000d", "a|b\\c\\p\\n", "%41 %+[x]:/", "Привет", "日本語", "\uD83D\uDE00",
-        "\uD83D", "\uDE00\uD83D x", "\uFFFD", "\u2028\u0085\uFEFF"};
-
-    /** A case with its path and its facts. */
-    private interface Case {
-        void run(Room room) throws Exception;
-    }
+    private static final String[] TEXTS = {"a\nb\n", "a\tb\rc\u0000d", "a|b\\c\\p\\n", "%41 %+[x]:/", "Я 日本語 \uD83D\uDE00", "\uDE00\uD83D x",
+        "\uFFFD\u2028\u0085\uFEFF"};
 
     /** Where a case leaves what it made. */
     private static class Room {
@@ -74,6 +84,11 @@ public class ListenerCases {
         /** Returns the path of the case's record. */
         String path() {
             return folder + File.separator + name + ".record";
+        }
+
+        /** Returns one more where the case passes a limit that another one reaches. */
+        int atLimit(int limit) {
+            return name.startsWith("too-many-") ? limit + 1 : limit;
         }
 
         void fact(String word, Object value) {
@@ -95,7 +110,7 @@ public class ListenerCases {
     /** A listener whose clock falls. */
     private static class FallingClock extends RecordListener {
 
-        private final long[] times = {5_000_000_000L, 5_000_001_999L, 5_007_000_000L, 5_003_000_000L, 4_000_000_000L, 5_007_001_000L, 5_007_000_500L};
+        private final long[] times = {1, 7_000, 3_000, 0, 7_001, 7_000};
         private int next;
 
         FallingClock(String path) {
@@ -103,7 +118,7 @@ public class ListenerCases {
         }
 
         @Override
-        long nanoTime() {
+        long microseconds() {
             return times[next++];
         }
     }
@@ -111,7 +126,6 @@ public class ListenerCases {
     /** A listener that fails at its third event, as where no memory is left. */
     private static class FailingClock extends RecordListener {
 
-        /** The first is that of the run's beginning. */
         private int calls;
 
         FailingClock(String path) {
@@ -119,71 +133,50 @@ public class ListenerCases {
         }
 
         @Override
-        long nanoTime() {
-            if (calls++ == 3) {
+        long microseconds() {
+            if (calls++ == 2) {
                 throw new OutOfMemoryError("no memory");
             }
-            return super.nanoTime();
+            return super.microseconds();
         }
     }
 
-    /** A standard error that refuses what is written, as a test may have put it there. */
-    private static class Refusing extends OutputStream {
+    /** A handler that does something with each message. */
+    private static class Handling extends Handler {
+
+        private final Consumer<String> act;
+
+        Handling(Consumer<String> act) {
+            this.act = act;
+        }
+
+        @Override
+        public void publish(LogRecord said) {
+            act.accept(said.getMessage());
+        }
+
+        @Override
+        public void flush() {
+        }
+
+        @Override
+        public void close() {
+        }
+    }
+
+    /** A standard error that makes an entry of each line, as of a test that forwards it to its TestReporter. */
+    private static class Forwarding extends OutputStream {
+
+        private final Consumer<String> report;
+
+        Forwarding(Consumer<String> report) {
+            this.report = report;
+        }
 
         @Override
         public void write(int letter) {
-            throw new AssertionError("refused");
+            report.accept("" + (char) letter);
         }
-    }
-
-    private static final Map<String, Case> CASES = new LinkedHashMap<>();
-
-    static {
-        CASES.put("kinds", ListenerCases::kinds);
-        CASES.put("texts", ListenerCases::texts);
-        CASES.put("endings", ListenerCases::endings);
-        CASES.put("entries", ListenerCases::entries);
-        CASES.put("ids", ListenerCases::ids);
-        CASES.put("registrations", ListenerCases::registrations);
-        CASES.put("threads", ListenerCases::threads);
-        CASES.put("crowd", ListenerCases::crowd);
-        CASES.put("engines", ListenerCases::engines);
-        CASES.put("parameters", ListenerCases::parameters);
-        CASES.put("unknown-stamps", ListenerCases::unknownStamps);
-        CASES.put("properties", ListenerCases::properties);
-        CASES.put("path-first", ListenerCases::pathFirst);
-        CASES.put("no-path", ListenerCases::noPath);
-        CASES.put("process-number", ListenerCases::processNumber);
-        CASES.put("bad-paths", ListenerCases::badPaths);
-        CASES.put("times", ListenerCases::times);
-        CASES.put("falling-clock", ListenerCases::fallingClock);
-        CASES.put("failing-clock", ListenerCases::failingClock);
-        CASES.put("refused-messages", ListenerCases::refusedMessages);
-        CASES.put("two-runs", ListenerCases::twoRuns);
-        CASES.put("three-runs", ListenerCases::threeRuns);
-        CASES.put("numbered-runs", ListenerCases::numberedRuns);
-        CASES.put("deleted-record", ListenerCases::deletedRecord);
-        CASES.put("names-without-endings", ListenerCases::namesWithoutEndings);
-        CASES.put("runs-at-once", ListenerCases::runsAtOnce);
-        CASES.put("tags", room -> tags(room, "true"));
-        CASES.put("no-tags", room -> tags(room, "false"));
-        CASES.put("verbose", ListenerCases::verbose);
-        CASES.put("run-in-run", ListenerCases::runInRun);
-        CASES.put("same-listener-in-run", ListenerCases::sameListenerInRun);
-        CASES.put("dropped", ListenerCases::dropped);
-        CASES.put("unregistered", ListenerCases::unregistered);
-        CASES.put("outside-of-runs", ListenerCases::outsideOfRuns);
-        CASES.put("most-static", room -> manyStatic(room, MAX_DESCRIPTORS));
-        CASES.put("too-many-static", room -> manyStatic(room, MAX_DESCRIPTORS + 1));
-        CASES.put("most-registered", room -> manyRegistered(room, MAX_DESCRIPTORS));
-        CASES.put("too-many-registered", room -> manyRegistered(room, MAX_DESCRIPTORS + 1));
-        CASES.put("most-bytes", room -> manyBytes(room, MAX_TEXT_BYTES));
-        CASES.put("too-many-bytes", room -> manyBytes(room, MAX_TEXT_BYTES + 1));
-        CASES.put("too-many-static-bytes", ListenerCases::manyStaticBytes);
-        CASES.put("full-disk", ListenerCases::fullDisk);
-        CASES.put("full-at-once", ListenerCases::fullDisk);
-        CASES.put("held", ListenerCases::held);
-        CASES.put("other-process", ListenerCases::otherProcess);
     }
 
     private ListenerCases() {
@@ -195,16 +188,37 @@ public class ListenerCases {
         LogManager.getLogManager().reset();
         for (int i = 1; i < arguments.length; i++) {
             Room room = new Room(arguments[0], arguments[i]);
-            PrintStream errors = System.err;
-            try (PrintStream messages = new PrintStream(arguments[0] + File.separator + arguments[i] + ".messages", "UTF-8")) {
-                System.setErr(messages);
-                long begun = System.nanoTime();
-                CASES.get(arguments[i]).run(room);
-                room.fact("microseconds", (System.nanoTime() - begun) / 1_000);
-            } finally {
-                System.setErr(errors);
+            // (the method has the name in one word; a limit is reached, or is passed, in one method)
+            String name = room.name.replaceFirst("^(most|too-many)-", "many-").replace("full-at-once", "full-disk");
+            StringBuilder method = new StringBuilder();
+            for (String word : name.split("-")) {
+                method.append(method.length() == 0 ? word : word.substring(0, 1).toUpperCase() + word.substring(1));
             }
+            Method found = ListenerCases.class.getDeclaredMethod(method.toString(), Room.class);
+            run(arguments[0], arguments[i], () -> found.invoke(null, room));
         }
+    }
+
+    /** Runs a case, and leaves what was logged and what it wrote on standard error. */
+    static void run(String folder, String name, ScriptedEngine.Step step) throws Exception {
+        PrintStream errors = System.err;
+        Logger logger = Logger.getLogger("testkit");
+        try (PrintStream messages = new PrintStream(folder + File.separator + name + ".messages", "UTF-8")) {
+            Handler handler = new Handling(text -> messages.println("testkit: " + text));
+            logger.addHandler(handler);
+            System.setErr(messages);
+            long begun = now();
+            step.run();
+            System.out.println(name + " microseconds " + begun + " " + now());
+            logger.removeHandler(handler);
+        } finally {
+            System.setErr(errors);
+        }
+    }
+
+    /** Returns the microseconds since 1970. */
+    private static long now() {
+        return ChronoUnit.MICROS.between(Instant.EPOCH, Instant.now());
     }
 
     /** Runs the engines with this listener; {@code parameters} are names and values of configuration parameters. */
@@ -297,25 +311,19 @@ public class ListenerCases {
         Throwable[] throwables = {null, new IllegalStateException((String) null), new IllegalStateException(""), new IllegalStateException("m"),
             new Unreadable()};
         record(room, root -> {
-            for (int i = 0; i < throwables.length; i++) {
-                root.add("a", "" + i, "aborted " + i, Type.TEST);
-                root.add("f", "" + i, "failed " + i, Type.TEST);
-            }
-            for (int i = 0; i < 3; i++) {
-                root.add("s", "" + i, "skipped " + i, Type.TEST);
+            for (int i = 0; i < 7; i++) {
+                root.add("t", "" + i, "test " + i, Type.TEST);
             }
         }, (calls, root) -> {
             calls.start(root);
             for (int i = 0; i < throwables.length; i++) {
-                calls.start(root.child(2 * i));
-                calls.abort(root.child(2 * i), throwables[i]);
-                calls.start(root.child(2 * i + 1));
-                calls.fail(root.child(2 * i + 1), throwables[i]);
+                calls.start(root.child(i));
+                calls.fail(root.child(i), throwables[i]);
             }
-            calls.skip(root.child(10), null);
-            calls.skip(root.child(11), "");
-            calls.skip(root.child(12), "r");
-            calls.succeed(root);
+            calls.start(root.child(5));
+            calls.abort(root.child(5), throwables[2]);
+            calls.skip(root.child(6), null);
+            calls.abort(root, null);
         });
     }
 
@@ -356,13 +364,9 @@ public class ListenerCases {
             root.addChild(new Node(missing.append("t", "2"), "beside", Type.TEST));
             root.addChild(new Node(UniqueId.forEngine("other").append("t", "1"), "of no root", Type.TEST));
             root.addChild(new Node(id.append("missing", letters(5_000)).append("t", "1"), "below what is too long", Type.TEST));
-            Node above = root;
-            for (int segments = 2; segments <= 66; segments++) {
-                above = above.add("n", "" + segments, "level " + segments, Type.CONTAINER);
-            }
         }, (calls, root) -> {
             calls.start(root);
-            for (int i = 0; i < 12; i++) {
+            for (int i = 0; i < 11; i++) {
                 calls.skip(root.child(i), "child " + i);
             }
             calls.skip(calls.register(root, letters(rest), "as long as may be", Type.TEST), "");
@@ -397,23 +401,44 @@ public class ListenerCases {
         });
     }
 
+    /** Threads one after another, one that goes on while another thread has its worker, and sixteen at once. */
     private static void threads(Room room) {
         record(room, ListenerCases::oneTest, (calls, root) -> {
             calls.start(root);
-            for (int i = 2; i <= 32; i++) {
-                int thread = i;
+            for (String name : new String[] {"2", "3"}) {
                 calls.onThread(() -> {
-                    Node test = calls.register(root, "" + thread, "thread " + thread, Type.TEST);
                     // (a write by a channel would close it here)
                     Thread.currentThread().interrupt();
-                    calls.play(test);
+                    calls.play(calls.register(root, name, "thread " + name, Type.TEST));
                 });
             }
+            calls.onThread(() -> {
+                calls.play(calls.register(root, "first", "first", Type.TEST));
+                calls.onThread(() -> calls.start(root.child(0)));
+                calls.play(calls.register(root, "moved", "moved", Type.TEST));
+                calls.succeed(root.child(0));
+            });
+            atOnce(calls, root, 2, 16);
             calls.succeed(root);
         });
     }
 
-    /** Thirty threads that register and report at once. */
+    /** Starts descriptors from {@code number} to {@code last}, each in a thread of its own that waits for the later ones. */
+    private static void atOnce(Calls calls, Node root, int number, int last) throws InterruptedException {
+        if (number > last) {
+            calls.report(root.child(0), "all", "run");
+            return;
+        }
+        calls.onThread(() -> {
+            Node test = root.add("a", "" + number, "at once " + number, Type.CONTAINER_AND_TEST);
+            calls.register(test);
+            calls.start(test);
+            atOnce(calls, root, number + 1, last);
+            calls.succeed(test);
+        });
+    }
+
+    /** Thirty threads that run, register and report at once. */
     private static void crowd(Room room) {
         RecordListener listener = new RecordListener(room.path());
         launch(listener, parameters("testkit.stamps", "positions"), new ScriptedEngine("e", "engine", root -> {
@@ -421,31 +446,93 @@ public class ListenerCases {
                 root.add("t", "" + i, "thread " + i, Type.CONTAINER_AND_TEST);
             }
         }, (calls, root) -> {
-            Thread[] threads = new Thread[CROWD];
-            for (int i = 0; i < CROWD; i++) {
+            CyclicBarrier allRun = new CyclicBarrier(CROWD);
+            inThreads(CROWD, i -> {
                 Node test = root.child(i);
-                threads[i] = new Thread(() -> {
-                    for (int report = 0; report < REPORTS; report++) {
-                        calls.report(calls.register(test, "" + report, "report " + report, Type.TEST), "number", "" + report);
-                    }
-                });
-            }
-            for (Thread thread : threads) {
-                thread.start();
-            }
-            for (Thread thread : threads) {
-                thread.join();
-            }
+                calls.start(test);
+                allRun.await();
+                for (int report = 0; report < REPORTS; report++) {
+                    calls.report(calls.register(test, "" + report, "report " + report, Type.TEST), "number", "" + report);
+                }
+                allRun.await();
+                calls.succeed(test);
+            });
         }));
         room.fact("whole", listener.isWhole());
     }
 
-    private static void engines(Room room) {
-        RecordListener listener = new RecordListener(room.path());
-        TestEngine first = new ScriptedEngine("e", "first", ListenerCases::oneTest, ListenerCases::playOneTest);
-        TestEngine second = new ScriptedEngine("b", "second", ListenerCases::oneTest, ListenerCases::playOneTest);
-        launch(listener, Collections.emptyMap(), first, second);
-        room.fact("whole", listener.isWhole());
+    /** What a thread does, by its number. */
+    private interface Part {
+        void run(int number) throws Exception;
+    }
+
+    /** Does this in so many threads at once, and waits for their ends. */
+    private static void inThreads(int count, Part part) throws InterruptedException {
+        List<Thread> threads = new ArrayList<>();
+        for (int i = 0; i < count; i++) {
+            int number = i;
+            threads.add(new Thread(() -> {
+                try {
+                    part.run(number);
+                } catch (Exception fault) {
+                    throw new IllegalStateException(fault);
+                }
+            }));
+        }
+        threads.forEach(Thread::start);
+        for (Thread thread : threads) {
+            thread.join();
+        }
+    }
+
+    /**
+     * Threads whose standard error goes to the listener, while it says something there: that more than fifteen run.
+     * The first thread holds the stream until that is said, and then reports: if it were said under the listener's lock, none would go on.
+     */
+    private static void forwardedErrors(Room room) {
+        PrintStream errors = System.err;
+        CountDownLatch isHeld = new CountDownLatch(1);
+        CountDownLatch isSaid = new CountDownLatch(1);
+        Handler handler = new Handling(text -> {
+            isSaid.countDown();
+            System.err.println(text);
+        });
+        record(room, ListenerCases::oneTest, (calls, root) -> {
+            Node forwarding = root.child(0);
+            Logger.getLogger("testkit").addHandler(handler);
+            System.setErr(new PrintStream(new Forwarding(letter -> {
+                isHeld.countDown();
+                await(isSaid);
+                calls.report(forwarding, "letter", letter);
+            }), true));
+            CyclicBarrier allRun = new CyclicBarrier(FORWARDING);
+            inThreads(FORWARDING, i -> {
+                Node test;
+                synchronized (root) {
+                    test = root.add("d", "" + i, "thread " + i, Type.TEST);
+                }
+                if (i == 0) {
+                    System.err.print("x");
+                } else {
+                    await(isHeld);
+                }
+                calls.register(test);
+                calls.start(test);
+                allRun.await();
+                System.err.print("y");
+                calls.succeed(test);
+            });
+        });
+        System.setErr(errors);
+        Logger.getLogger("testkit").removeHandler(handler);
+    }
+
+    private static void await(CountDownLatch latch) {
+        try {
+            latch.await(5, TimeUnit.SECONDS);
+        } catch (InterruptedException fault) {
+            throw new IllegalStateException(fault);
+        }
     }
 
     private static Map<String, String> parameters(String... words) {
@@ -460,37 +547,23 @@ public class ListenerCases {
         return new ScriptedEngine("e", "engine", ListenerCases::oneTest, ListenerCases::playOneTest);
     }
 
+    /** The constructor's path counts, and the parameter's stamps. */
     private static void parameters(Room room) {
-        RecordListener listener = new RecordListener();
-        launch(listener, parameters("testkit.record", room.path(), "testkit.stamps", "positions"), oneTestEngine());
+        RecordListener listener = new RecordListener(room.path());
+        launch(listener, parameters("testkit.record", room.path() + ".other", "testkit.stamps", "positions"), oneTestEngine());
         room.fact("whole", listener.isWhole());
+        room.fact("other", Files.exists(Paths.get(room.path() + ".other")));
     }
 
     private static void unknownStamps(Room room) {
         launch(new RecordListener(), parameters("testkit.record", room.path(), "testkit.stamps", "position"), oneTestEngine());
     }
 
-    private static void properties(Room room) {
-        System.setProperty("testkit.record", room.path());
-        System.setProperty("testkit.stamps", "positions");
-        try {
-            launch(new RecordListener(), Collections.emptyMap(), oneTestEngine());
-        } finally {
-            System.clearProperty("testkit.record");
-            System.clearProperty("testkit.stamps");
-        }
-    }
-
-    private static void pathFirst(Room room) {
-        RecordListener listener = new RecordListener(room.path());
-        launch(listener, parameters("testkit.record", room.path() + ".other", "testkit.stamps", "positions"), oneTestEngine());
-        room.fact("other", Files.exists(Paths.get(room.path() + ".other")));
-    }
-
-    /** Two runs that nobody records, of whose odd texts nothing is said. */
+    /** Runs that nobody records, of whose odd texts nothing is said. */
     private static void noPath(Room room) {
         RecordListener listener = new RecordListener();
         launch(listener, Collections.emptyMap(), oneTestEngine());
+        launch(listener, parameters("testkit.record", ""), oneTestEngine());
         launch(listener, ListenerCases::oneTest, (calls, root) -> {
             calls.start(root);
             calls.report(root, "\uD83D", "first", "\uDE00", "second");
@@ -499,36 +572,93 @@ public class ListenerCases {
             calls.succeed(root);
         });
         room.fact("whole", listener.isWhole());
+        room.fact("whole", new RecordListener(room.path()).isWhole());
     }
 
+    /** Two runs whose path has the process and letters, in folders that aren't there. */
     private static void processNumber(Room room) throws IOException {
-        launch(new RecordListener(room.path() + ".%p.%p.%"), ListenerCases::oneTest, ListenerCases::playOneTest);
-        long process = ProcessHandle.current().pid();
-        Files.move(Paths.get(room.path() + "." + process + "." + process + ".%"), Paths.get(room.path()));
+        Path folder = Paths.get(room.folder, room.name + ".d", "" + ProcessHandle.current().pid());
+        for (int run = 1; run <= 2; run++) {
+            launch(new RecordListener(room.folder + "/" + room.name + ".d/%p/%p.%r.%"), ListenerCases::oneTest, ListenerCases::playOneTest);
+        }
+        String[] found = folder.toFile().list();
+        room.fact("differ", found.length == 2 && Arrays.stream(found).allMatch(it -> it.matches("[0-9]+[.][a-z]{8}[.]%")));
+        Files.move(folder.resolve(found[0]), Paths.get(room.path()));
     }
 
-    private static void badPaths(Room room) {
-        for (String path : new String[] {"nowhere/at/all.record", "", "a\u0000b", ".", "."}) {
-            RecordListener listener = new RecordListener(path);
+    /** Paths where no record may be: no path, a folder, below a file, files of somebody else, and a pipe, which nobody reads. */
+    private static void badPaths(Room room) throws Exception {
+        Path folder = Files.createDirectory(Paths.get(room.folder, room.name + ".d"));
+        Files.write(folder.resolve("pom.xml"), "<project/>\n".getBytes(UTF_8));
+        Files.write(folder.resolve("begins"), "testkit-record".getBytes(UTF_8));
+        new ProcessBuilder("mkfifo", folder.resolve("pipe").toString()).start().waitFor();
+        for (String path : new String[] {"a\u0000b", "", "pom.xml/record", "pom.xml", "begins", "pipe"}) {
+            RecordListener listener = new RecordListener(path.contains("\u0000") ? path : folder + "/" + path);
             launch(listener, ListenerCases::oneTest, ListenerCases::playOneTest);
             room.fact("whole", listener.isWhole());
+        }
+        room.fact("kept", linesOf(folder.resolve("pom.xml").toFile()) + linesOf(folder.resolve("begins").toFile()));
+    }
+
+    /** Records of earlier processes: at the path of this one, and at a number. */
+    private static void earlierRecords(Room room) throws IOException {
+        for (String path : new String[] {room.path(), room.path() + ".1"}) {
+            Files.write(Paths.get(path), Collections.nCopies(100, "testkit-record|0"));
+        }
+        launch(new RecordListener(room.path()), ListenerCases::oneTest, (calls, root) -> calls.skip(root, "in its place"));
+        launch(new RecordListener(room.path() + ".%n"), ListenerCases::oneTest, (calls, root) -> calls.skip(root, "beside it"));
+        room.fact("kept", linesOf(new File(room.path() + ".1")));
+        Files.delete(Paths.get(room.path() + ".1"));
+    }
+
+    /** Runs of two copies of the listener's class, as of two builds in one process. */
+    private static void twoClassLoaders(Room room) throws Exception {
+        for (String reason : new String[] {"first", "second"}) {
+            try (URLClassLoader loader = new URLClassLoader(new URL[] {RecordListener.class.getProtectionDomain().getCodeSource().getLocation()}) {
+                @Override
+                protected Class<?> loadClass(String name, boolean resolve) throws ClassNotFoundException {
+                    return name.startsWith("testkit.Record") && findLoadedClass(name) == null ? findClass(name) : super.loadClass(name, resolve);
+                }
+            }) {
+                Class<?> listener = loader.loadClass("testkit.RecordListener");
+                room.fact("same", listener == RecordListener.class);
+                for (String path : new String[] {room.path(), room.path() + ".%n"}) {
+                    launch((TestExecutionListener) listener.getConstructor(String.class).newInstance(path), ListenerCases::oneTest,
+                            (calls, root) -> calls.skip(root, reason));
+                }
+            }
+        }
+    }
+
+    /** Records that somebody deletes, replaces or changes while they are written. */
+    private static void lostRecords(Room room) throws IOException {
+        for (String how : new String[] {"deleted", "replaced", "changed"}) {
+            Path path = Paths.get(room.path() + "." + how);
+            RecordListener listener = new RecordListener(path.toString());
+            launch(listener, ListenerCases::oneTest, (calls, root) -> {
+                calls.start(root);
+                if (how.equals("changed")) {
+                    Files.write(path, "testkit-record|2\n".getBytes(UTF_8));
+                } else {
+                    Files.delete(path);
+                }
+                if (how.equals("replaced")) {
+                    Files.createFile(path);
+                }
+                calls.succeed(root);
+            });
+            room.fact("whole", listener.isWhole());
+            Files.deleteIfExists(path);
         }
     }
 
     private static void times(Room room) {
-        RecordListener listener = new RecordListener(room.path());
-        launch(listener, ListenerCases::oneTest, (calls, root) -> {
-            pause();
-            calls.start(root);
-        });
-        launch(listener, ListenerCases::oneTest, (calls, root) -> {
-            long begun = System.nanoTime();
+        record(room, ListenerCases::oneTest, (calls, root) -> {
             calls.start(root);
             calls.start(root.child(0));
             pause();
             calls.succeed(root.child(0));
             calls.succeed(root);
-            room.fact("second-run", (System.nanoTime() - begun) / 1_000);
         });
     }
 
@@ -559,19 +689,20 @@ public class ListenerCases {
         room.fact("whole", listener.isWhole());
     }
 
-    /** A message that can't be had, and the end of a recording, while standard error refuses each line. */
+    /** A message that can't be had, while a handler refuses each line. */
     private static void refusedMessages(Room room) {
-        PrintStream errors = System.err;
-        System.setErr(new PrintStream(new Refusing()));
+        Handler refusing = new Handling(text -> {
+            throw new AssertionError("refused");
+        });
+        Logger.getLogger("testkit").addHandler(refusing);
         try {
             record(room, ListenerCases::oneTest, (calls, root) -> {
                 calls.start(root);
                 calls.fail(root.child(0), new Unreadable());
-                calls.report(root, "k", letters(MAX_TEXT_BYTES));
                 calls.succeed(root);
             });
         } finally {
-            System.setErr(errors);
+            Logger.getLogger("testkit").removeHandler(refusing);
         }
     }
 
@@ -598,23 +729,12 @@ public class ListenerCases {
             calls.succeed(root);
         });
         room.fact("whole", listener.isWhole());
-    }
-
-    /** Three launches, as a build tool makes them of one process, whose listeners have one path. */
-    private static void threeRuns(Room room) {
-        for (int run = 1; run <= 3; run++) {
-            RecordListener listener = new RecordListener();
-            String reason = "run " + run;
-            TestEngine engine = new ScriptedEngine("e", "engine", ListenerCases::oneTest, (calls, root) -> calls.skip(root, reason));
-            launch(listener, parameters("testkit.record", room.path()), engine);
-            room.fact("whole", listener.isWhole());
-        }
+        launch(new RecordListener(room.path()), ListenerCases::oneTest, (calls, root) -> calls.skip(root, "of another listener"));
     }
 
     /** Runs whose path has a place for their number, the second beside the first; and a path that their third one would have. */
-    private static void numberedRuns(Room room) throws IOException {
+    private static void numberedRuns(Room room) {
         String path = room.folder + File.separator + room.name + ".%n.%n.record";
-        Files.write(Paths.get(path.replace("%n", "1")), Collections.nCopies(100, "what an earlier process left"));
         launch(new RecordListener(path.replace("%n", "3")), ListenerCases::oneTest, (calls, root) -> calls.skip(root, "by its name"));
         launch(new RecordListener(path), ListenerCases::oneTest, (calls, root) -> {
             launch(new RecordListener(path), ListenerCases::oneTest, (inner, other) -> inner.skip(other, "inside"));
@@ -642,41 +762,25 @@ public class ListenerCases {
         room.fact("files", String.join(",", found));
     }
 
-    /** Launches in threads that begin at once at a path where no file is. */
+    /** Launches in threads that begin at once, at one path. */
     private static void runsAtOnce(Room room) throws InterruptedException {
-        int whole = 0;
+        String path = room.folder + File.separator + room.name + ".0";
+        List<RecordListener> whole = Collections.synchronizedList(new ArrayList<>());
         for (int round = 0; round < ROUNDS; round++) {
-            String path = room.folder + File.separator + room.name + "." + round;
             CyclicBarrier begin = new CyclicBarrier(LAUNCHES);
-            List<RecordListener> listeners = new ArrayList<>();
-            List<Thread> threads = new ArrayList<>();
-            for (int i = 0; i < LAUNCHES; i++) {
-                RecordListener listener = new RecordListener(path) {
-                    @Override
-                    public void testPlanExecutionStarted(TestPlan plan) {
-                        try {
-                            begin.await();
-                        } catch (InterruptedException | BrokenBarrierException fault) {
-                            throw new IllegalStateException(fault);
-                        }
-                        super.testPlanExecutionStarted(plan);
-                    }
-                };
-                listeners.add(listener);
-                threads.add(new Thread(() -> launch(listener, ListenerCases::oneTest, ListenerCases::playOneTest)));
-            }
-            threads.forEach(Thread::start);
-            for (Thread thread : threads) {
-                thread.join();
-            }
-            whole += (int) listeners.stream().filter(RecordListener::isWhole).count();
+            inThreads(LAUNCHES, i -> {
+                RecordListener listener = new RecordListener(path);
+                begin.await();
+                launch(listener, ListenerCases::oneTest, ListenerCases::playOneTest);
+                whole.add(listener);
+            });
         }
         int records = 0;
         for (File file : new File(room.folder).listFiles((folder, name) -> name.startsWith(room.name + ".") && !name.endsWith(".messages"))) {
             records += linesOf(file) == 7 ? 1 : 0;
             file.delete();
         }
-        room.fact("whole", whole == ROUNDS * LAUNCHES);
+        room.fact("whole", whole.stream().filter(RecordListener::isWhole).count() == ROUNDS * LAUNCHES);
         room.fact("records", records == ROUNDS * LAUNCHES);
     }
 
@@ -689,8 +793,8 @@ public class ListenerCases {
     }
 
     /** Descriptors with tags, one of them dynamic. */
-    private static void tags(Room room, String value) {
-        launch(new RecordListener(room.path()), parameters("testkit.tags", value), new ScriptedEngine("e", "engine", root -> {
+    private static void tags(Room room) {
+        launch(new RecordListener(room.path()), parameters("testkit.tags", "true"), new ScriptedEngine("e", "engine", root -> {
             root.add("t", "1", "one", Type.TEST).tag("b\\c").tag("a");
             root.add("t", "2", "two", Type.TEST).tag("off");
         }, (calls, root) -> {
@@ -752,20 +856,6 @@ public class ListenerCases {
         room.fact("whole", listener.isWhole());
     }
 
-    /** What JUnit's launcher doesn't hand on: events of ids that nobody registered. */
-    private static void dropped(Room room) {
-        record(room, ListenerCases::oneTest, (calls, root) -> {
-            calls.start(root);
-            Node unknown = root.add("t", "2", "two", Type.TEST);
-            calls.start(unknown);
-            calls.report(unknown, "k", "v");
-            calls.succeed(unknown);
-            calls.skip(unknown, "never");
-            calls.play(root.child(0));
-            calls.succeed(root);
-        });
-    }
-
     /** A listener that is told of an id that nobody registered, as JUnit's launcher never does. */
     private static void unregistered(Room room) {
         RecordListener listener = new RecordListener(room.path());
@@ -794,7 +884,8 @@ public class ListenerCases {
         room.fact("whole", listener.isWhole());
     }
 
-    private static void manyStatic(Room room, int count) {
+    private static void manyStatic(Room room) {
+        int count = room.atLimit(MAX_DESCRIPTORS);
         record(room, root -> {
             for (int i = 1; i < count; i++) {
                 root.add("t", "" + i, "t" + i, Type.TEST);
@@ -806,26 +897,65 @@ public class ListenerCases {
         });
     }
 
-    private static void manyRegistered(Room room, int count) {
+    private static void manyRegistered(Room room) {
         record(room, ListenerCases::oneTest, (calls, root) -> {
+            calls.start(root);
             calls.onThread(() -> calls.register(root, "other", "other", Type.TEST));
-            for (int i = 0; i < count; i++) {
+            for (int i = 0; i < room.atLimit(MAX_DESCRIPTORS); i++) {
                 calls.register(root, "" + i, "d" + i, Type.TEST);
             }
             calls.onThread(() -> calls.register(root, "third", "third", Type.TEST));
         });
     }
 
-    /** Two long entries after which the text has so many bytes, and a start. */
-    private static void manyBytes(Room room, int bytes) {
+    /** Two entries after which the text has so many bytes, and a finish. */
+    private static void manyBytes(Room room) {
         RecordListener listener = new RecordListener(room.path());
         launch(listener, parameters("testkit.stamps", "positions"), new ScriptedEngine("e", "engine", ListenerCases::oneTest, (calls, root) -> {
-            calls.report(root, "k", letters(10 << 20));
-            int rest = "E|1|0|1|report|k|\n".length();
-            calls.report(root, "k", letters(bytes - (int) Files.size(Paths.get(room.path())) - rest));
             calls.start(root);
+            reportBytes(calls, root, 10 * MIB);
+            reportBytes(calls, root, room.atLimit(MAX_TEXT_BYTES) - (int) Files.size(Paths.get(room.path())) - "E|1|0|2|report\n".length());
+            calls.succeed(root);
         }));
         room.fact("whole", listener.isWhole());
+    }
+
+    /** Publishes an entry of pairs that have so many bytes in its line, each with two bars and a key of four digits beside its value. */
+    private static void reportBytes(Calls calls, Node node, int bytes) {
+        List<String> pairs = new ArrayList<>();
+        int left = bytes;
+        for (int count = bytes / 65_000 + 1; count > 0; count--) {
+            pairs.add("" + (9_999 - count));
+            pairs.add(letters(left / count - 6));
+            left -= left / count;
+        }
+        calls.report(node, pairs.toArray(new String[0]));
+    }
+
+    /** Ids of as many segments as may be, and of more. */
+    private static void manySegments(Room room) {
+        record(room, root -> {
+            Node above = root;
+            for (int segments = 2; segments <= 66; segments++) {
+                above = above.add("n", "" + segments, "level " + segments, Type.CONTAINER);
+            }
+        }, Calls::play);
+    }
+
+    /** Texts as long as may be and longer; of the longer one a character stands across the end. */
+    private static void longTexts(Room room) {
+        record(room, ListenerCases::oneTest, (calls, root) -> {
+            String most = letters(MAX_FIELD_BYTES);
+            String more = letters(MAX_FIELD_BYTES - 1) + "日";
+            calls.start(root);
+            calls.report(root, most, more);
+            calls.report(root, more, most);
+            calls.skip(root.child(0), more);
+            for (int i = 0; i < 20; i++) {
+                calls.fail(root.child(0), new IllegalStateException(letters(MIB)));
+            }
+            calls.abort(root, new IllegalStateException(more));
+        });
     }
 
     /** Two tests with long names after which 2,000 bytes are left, and one below an id that needs a longer line of its own. */
@@ -842,8 +972,9 @@ public class ListenerCases {
     private static void fullDisk(Room room) {
         record(room, ListenerCases::oneTest, (calls, root) -> {
             calls.start(root);
-            calls.report(root.child(0), "k", letters(2 << 20));
-            calls.report(root.child(0), "k", "v");
+            for (int i = 0; i < 20; i++) {
+                calls.report(root.child(0), "k", letters(MAX_FIELD_BYTES));
+            }
             calls.succeed(root);
         });
     }

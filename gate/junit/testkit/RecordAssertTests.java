@@ -3,7 +3,6 @@ package testkit;
 import static java.nio.charset.StandardCharsets.UTF_8;
 import static org.junit.jupiter.api.Assertions.assertEquals;
 import static org.junit.jupiter.api.Assertions.assertFalse;
-import static org.junit.jupiter.api.Assertions.assertSame;
 import static org.junit.jupiter.api.Assertions.assertThrows;
 import static org.junit.jupiter.api.Assertions.assertTrue;
 import static org.junit.jupiter.api.Assumptions.assumeTrue;
@@ -14,7 +13,9 @@ import static testkit.RecordAssert.Conditions.hasFailed;
 import static testkit.RecordAssert.Conditions.hasFile;
 import static testkit.RecordAssert.Conditions.hasId;
 import static testkit.RecordAssert.Conditions.hasKind;
+import static testkit.RecordAssert.Conditions.hasMessage;
 import static testkit.RecordAssert.Conditions.hasName;
+import static testkit.RecordAssert.Conditions.hasSegment;
 import static testkit.RecordAssert.Conditions.hasStarted;
 import static testkit.RecordAssert.Conditions.hasSucceeded;
 import static testkit.RecordAssert.Conditions.isContainer;
@@ -46,6 +47,8 @@ import org.junit.platform.engine.TestDescriptor.Type;
 import org.junit.platform.engine.UniqueId;
 import org.junit.platform.testkit.engine.EngineExecutionResults;
 import org.junit.platform.testkit.engine.ExecutionRecorder;
+import org.opentest4j.AssertionFailedError;
+import org.opentest4j.TestAbortedException;
 import testkit.ScriptedEngine.Script;
 
 /** Tests of {@link RecordAssert} with a script in place of the program, and with the program that {@code testkit.real} names. */
@@ -59,6 +62,8 @@ class RecordAssertTests {
 
     private static final String TWO_TESTS = "testkit-record|2\nN|C|[engine:e]|e\nN|T|[engine:e]/[t:1]|one\nN|T|[engine:e]/[t:2]|two\n"
             + "E|1|0|0|start\nE|1|1|0|start\nE|2|2|0|start\nE|1|1|0|finish|fail|boom\nE|2|2|0|finish|ok\nE|1|0|0|finish|ok\n";
+    private static final String APART = "testkit-record|2\nN|C|[engine:e]|e\nN|T|[engine:e]/[t:1]|one\nN|T|[engine:e]/[t:2]|two\n"
+            + "E|1|1|0|start\nE|1|1|0|finish|ok\nE|2|2|0|start\nE|2|2|0|finish|ok\n";
     private static final String BROKEN = "testkit-record|2\nN|T|[engine:e]|e\nE|1|0|0|start\n";
     private static final String FORGOTTEN = "testkit-record|2\nN|C|[engine:e]|e\nN|T|[engine:e]/[t:1]|one\nE|1|0|0|start\nE|1|0|0|finish|ok\n";
     private static final String STATISTICS = "skipped 0";
@@ -104,21 +109,20 @@ class RecordAssertTests {
     private static Map<String, Function<RecordAssert, RecordAssert>> methods() {
         Map<String, Function<RecordAssert, RecordAssert>> found = new LinkedHashMap<>();
         found.put("ask explain lifecycle", RecordAssert::keepsLifecycle);
-        found.put("ask stats failed=1 skipped=0", it -> it.hasStatistics("failed=1", "skipped=0"));
-        found.put("ask explain exactly a b", it -> it.matchesExactly("a", "b"));
-        found.put("ask explain loosely c", it -> it.matchesLoosely("c"));
-        found.put("ask explain in-order d e f", it -> it.matchesInOrder("d", "e", "f"));
+        found.put("ask explain stats all failed=1 skipped=0", it -> it.hasStatistics("failed=1", "skipped=0"));
+        found.put("ask explain all exactly a b", it -> it.matchesExactly("a", "b"));
+        found.put("ask explain tests loosely c", it -> it.tests().matchesLoosely("c"));
+        found.put("ask explain failed in-order d e f", it -> it.on("failed").matchesInOrder("d", "e", "f"));
         found.put("ask explain exclusive g", it -> it.exclusive("g"));
-        found.put("ask explain exclusive h i", it -> it.exclusive("h", "i"));
+        found.put("ask explain exclusive h i", it -> it.containers().exclusive("h", "i"));
         return found;
     }
 
     @Test
     void eachMethodAsksAndTakesAYes() throws IOException {
-        program("[ \"$2\" = stats ] && echo " + STATISTICS + " || echo yes");
-        RecordAssert asserting = RecordAssert.assertThat(record);
+        program("[ \"$3\" = stats ] && echo " + STATISTICS + " || echo yes");
         for (Map.Entry<String, Function<RecordAssert, RecordAssert>> method : methods().entrySet()) {
-            assertSame(asserting, method.getValue().apply(asserting));
+            method.getValue().apply(RecordAssert.assertThat(record));
             assertEquals(method.getKey(), String.join(" ", words("program")));
             assertEquals(TWO_TESTS, text(folder.resolve("program.input")));
         }
@@ -128,45 +132,89 @@ class RecordAssertTests {
     void eachMethodRefusesANoWithItsExplanation() throws IOException {
         program("echo no 4", "echo why", "exit 1");
         for (Map.Entry<String, Function<RecordAssert, RecordAssert>> method : methods().entrySet()) {
-            AssertionError fault = assertThrows(AssertionError.class, () -> method.getValue().apply(RecordAssert.assertThat(record)));
-            assertEquals(folder.resolve("program") + " " + method.getKey() + " < " + record + "\nno 4\nwhy\n", fault.getMessage());
+            Error fault = assertThrows(AssertionFailedError.class, () -> method.getValue().apply(RecordAssert.assertThat(record).describedAs("run 1")));
+            assertEquals("[run 1] " + folder.resolve("program") + " " + method.getKey() + " < " + record + "\nno 4\nwhy\n", fault.getMessage());
         }
+    }
+
+    @Test
+    void eventsAreListedAndCounted() throws IOException {
+        program("echo 0 a; echo 3 b");
+        RecordAssert asserting = RecordAssert.assertThat(record).tests().hasCount(2, "x");
+        assertEquals("ask explain list tests x", String.join(" ", words("program")));
+        Error fault = assertThrows(AssertionFailedError.class, () -> asserting.hasCount(1, "x"));
+        assertEquals("1 events wanted, 2 found: " + folder.resolve("program") + " ask explain list tests x < " + record + "\n0 a\n3 b", fault.getMessage());
+        assertEquals(Arrays.asList("0 a", "3 b"), asserting.list());
+        assertEquals("ask explain list tests", String.join(" ", words("program")));
+        program("true");
+        assertEquals(Collections.emptyList(), asserting.hasCount(0, "x").debug().list("x", "y"));
+        program("echo 0 a", "exit 1");
+        assertThrows(IllegalStateException.class, () -> asserting.hasCount(1, "x"));
+    }
+
+    /** The command of a message does in a shell what the assertion did. */
+    @Test
+    void theCommandCanBePasted() throws Exception {
+        program("echo no 4", "exit 1");
+        Path odd = Files.copy(record, folder.resolve("it's a record"));
+        String condition = "all(name(it's \"a\" $b),any())";
+        Error fault = assertThrows(AssertionFailedError.class, () -> RecordAssert.assertThat(odd).matchesLoosely("test", condition));
+        Files.delete(folder.resolve("program.words"));
+        assertEquals(1, new ProcessBuilder("sh", "-c", fault.getMessage().split("\n")[0]).redirectErrorStream(true).start().waitFor());
+        assertEquals(Arrays.asList("ask", "explain", "all", "loosely", "test", condition), words("program"));
+        assertEquals(TWO_TESTS, text(folder.resolve("program.input")));
+    }
+
+    /** A condition has the number that it has in an answer, whatever words stand before it. */
+    @Test
+    void aConditionHasOneNumber() throws IOException {
+        for (int word : new int[] {2, 3}) {
+            program("echo 'testkit: condition " + word + " is bad at 3' >&2", "exit 2");
+            RuntimeException fault = assertThrows(IllegalArgumentException.class, () -> RecordAssert.assertThat(record).matchesExactly("a", "b"));
+            assertTrue(fault.getMessage().endsWith(" is refused: condition " + (word - 2) + " is bad at 3"), fault.getMessage());
+        }
+        program("echo 'testkit: condition 2 is too deep' >&2", "exit 2");
+        RuntimeException fault = assertThrows(IllegalArgumentException.class, () -> RecordAssert.assertThat(record).exclusive("a", "b"));
+        assertTrue(fault.getMessage().endsWith(" is refused: condition 1 is too deep"), fault.getMessage());
     }
 
     @Test
     void refusedWordsAreAnIllegalArgument() throws IOException {
         program("echo testkit: bad word 0 >&2", "exit 2");
         RuntimeException fault = assertThrows(IllegalArgumentException.class, () -> RecordAssert.assertThat(record).hasStatistics("x"));
-        assertTrue(fault.getMessage().contains("ask stats x < " + record), fault.getMessage());
-        assertTrue(fault.getMessage().contains("status 2: testkit: bad word 0"), fault.getMessage());
+        assertTrue(fault.getMessage().endsWith("ask explain stats all x < " + record + " is refused: testkit: bad word 0\n"), fault.getMessage());
     }
 
     @Test
     void aProgramThatBreaksIsAnIllegalState() throws IOException {
         String[][] scripts = {{"echo testkit: device failed >&2", "exit 3"}, {"echo no", "exit 70"}, {"kill -KILL $$"}, {"exit 1"}, {"exit 0"},
-            {"echo " + STATISTICS}};
+            {"echo " + STATISTICS}, {"echo yes", "exit 3"}};
         for (String[] lines : scripts) {
             program(lines);
             RuntimeException fault = assertThrows(IllegalStateException.class, () -> RecordAssert.assertThat(record).matchesLoosely("x"));
-            assertTrue(fault.getMessage().contains("ask explain loosely x < " + record), fault.getMessage());
+            assertTrue(fault.getMessage().contains("ask explain all loosely x < " + record), fault.getMessage());
         }
         program("echo yes");
         assertThrows(IllegalStateException.class, () -> RecordAssert.assertThat(record).hasStatistics("failed=1"));
     }
 
     @Test
-    void aMissingProgramIsAnIllegalState() {
-        System.setProperty("testkit.program", folder.resolve("nowhere").toString());
-        RuntimeException fault = assertThrows(IllegalStateException.class, () -> RecordAssert.assertThat(record).exclusive("x"));
-        assertTrue(fault.getMessage().contains("ask explain exclusive x < " + record), fault.getMessage());
-        assertTrue(fault.getMessage().contains("testkit.program"), fault.getMessage());
+    void withoutAProgramATestIsAborted() throws IOException {
+        Path other = Files.write(folder.resolve("other"), new byte[] {0x7f, 'E', 'L', 'F', 0});
+        assertTrue(other.toFile().setExecutable(true));
+        for (Path program : new Path[] {folder.resolve("nowhere"), folder, other}) {
+            System.setProperty("testkit.program", program.toString());
+            RuntimeException fault = assertThrows(TestAbortedException.class, () -> RecordAssert.assertThat(record).exclusive("x"));
+            assertTrue(fault.getMessage().contains(program + "\""), fault.getMessage());
+            assertTrue(fault.getMessage().contains("install testkit_VERSION_amd64.deb"), fault.getMessage());
+        }
     }
 
     @Test
     void theProgramIsOnThePathWithoutAProperty() {
         assumeTrue(Arrays.stream(System.getenv("PATH").split(":")).noneMatch(it -> Files.exists(Paths.get(it, "testkit"))));
-        RuntimeException fault = assertThrows(IllegalStateException.class, () -> RecordAssert.assertThat(record).keepsLifecycle());
-        assertTrue(fault.getMessage().startsWith("testkit ask explain lifecycle < "), fault.getMessage());
+        RuntimeException fault = assertThrows(TestAbortedException.class, () -> RecordAssert.assertThat(record).keepsLifecycle());
+        assertTrue(fault.getMessage().contains("\"testkit\""), fault.getMessage());
     }
 
     @Test
@@ -219,7 +267,7 @@ class RecordAssertTests {
         String condition = hasName("日本");
         if (Charset.defaultCharset().equals(UTF_8)) {
             RecordAssert.assertThat(record).matchesLoosely(condition);
-            assertEquals(condition, words("program").get(3));
+            assertEquals(condition, words("program").get(4));
         } else {
             assertThrows(IllegalStateException.class, () -> RecordAssert.assertThat(record).matchesLoosely(condition));
             assertFalse(Files.exists(folder.resolve("program.words")));
@@ -232,6 +280,7 @@ class RecordAssertTests {
                 hasStarted(), hasSucceeded(), hasFailed(), wasAborted()));
         assertEquals("id(a) name(b) kind(skip) failed(c) aborted(d) skipped(e) file(f)", String.join(" ", hasId("a"), hasName("b"),
                 hasKind("skip"), hasFailed("c"), wasAborted("d"), wasSkipped("e"), hasFile("f")));
+        assertEquals("segment(a,b%29) message(c)", hasSegment("a", "b)") + " " + hasMessage("c"));
         assertEquals("entry(k,v,l,) entry()", hasEntry("k", "v", "l", "") + " " + hasEntry());
         assertEquals("all(test,not(any(id(a),failed)))", all(isTest(), not(any(hasId("a"), hasFailed()))));
         assertEquals("all() any()", all() + " " + any());
@@ -257,16 +306,19 @@ class RecordAssertTests {
     @Test
     void resultsAreAskedByTheirRecord() throws IOException {
         program("echo yes");
-        RecordAssert.assertThat(results((calls, root) -> calls.skip(root, "off"))).keepsLifecycle().matchesLoosely("x");
+        EngineExecutionResults results = results((calls, root) -> calls.skip(root, "off"));
+        Path path = ResultsAssert.assertThat(results).keepsLifecycle().matchesLoosely("x").recordPath();
+        assertEquals(path, ResultsAssert.assertThat(results).recordPath());
         List<String> lines = Files.readAllLines(folder.resolve("program.input"));
-        assertEquals(Arrays.asList("testkit-record|2", "N|C|[engine:e]|engine", "N|T|[engine:e]/[t:1]|one", "E|1|0|0|skip|off"), lines);
+        assertEquals(Arrays.asList("testkit-record|2", "N|C|[engine:e]|engine", "N|T|[engine:e]/[t:1]|one"), lines.subList(0, 3));
+        assertTrue(lines.get(3).matches("E[|]1[|]0[|][0-9]{16}[|]skip[|]off") && lines.size() == 4, lines.get(3));
     }
 
     /** (The records of results that are not refused go when the process ends, which {@code test_assert.py} sees.) */
     @Test
     void theRecordOfRefusedResultsStays() throws IOException {
         program("[ \"$3\" = lifecycle ] && echo yes && exit 0", "echo no 0", "exit 1");
-        RecordAssert asserting = RecordAssert.assertThat(results((calls, root) -> calls.skip(root, "refused")));
+        RecordAssert asserting = ResultsAssert.assertThat(results((calls, root) -> calls.skip(root, "refused")));
         AssertionError fault = assertThrows(AssertionError.class, () -> asserting.keepsLifecycle().matchesLoosely("x"));
         Path kept = Paths.get(fault.getMessage().split("\n")[0].split(" < ")[1]);
         assertTrue(text(kept).contains("|skip|refused\n"));
@@ -275,7 +327,7 @@ class RecordAssertTests {
     @Test
     void anIdThatNobodyRegisteredBreaksTheLifecycle() throws IOException {
         program("echo yes");
-        RecordAssert asserting = RecordAssert.assertThat(results((calls, root) -> {
+        RecordAssert asserting = ResultsAssert.assertThat(results((calls, root) -> {
             calls.start(root);
             calls.play(new ScriptedEngine.Node(root.getUniqueId().append("d", "1"), "one", Type.TEST));
             calls.play(new ScriptedEngine.Node(root.getUniqueId().append("d", "2"), "two", Type.TEST));
@@ -288,8 +340,12 @@ class RecordAssertTests {
 
     @Test
     void resultsWhoseRecordIsNotWholeAreRefused() {
-        EngineExecutionResults tooLong = results((calls, root) -> calls.report(root, "k", String.join("", Collections.nCopies(17 << 20, "x"))));
-        assertThrows(IllegalStateException.class, () -> RecordAssert.assertThat(tooLong));
+        EngineExecutionResults tooLong = results((calls, root) -> {
+            for (int i = 0; i < 300; i++) {
+                calls.report(root, "k", String.join("", Collections.nCopies(60_000, "x")));
+            }
+        });
+        assertThrows(IllegalStateException.class, () -> ResultsAssert.assertThat(tooLong));
     }
 
     /** Asks the program itself, at a yes and at a no of each method. */
@@ -300,19 +356,25 @@ class RecordAssertTests {
         System.setProperty("testkit.program", program);
         RecordAssert asserting = RecordAssert.assertThat(record).keepsLifecycle().hasStatistics("failed=1", "started=3")
                 .matchesLoosely(all(isTest(), hasFailed("boom")), hasSucceeded()).matchesInOrder(hasFailed(), all(hasName("two"), hasSucceeded()))
-                .matchesExactly(isEngine(), hasId("t:1"), hasId("t:2"), hasFailed("boom"), hasSucceeded(), isContainer());
+                .matchesExactly(isEngine(), hasId("t:1"), hasSegment("t", "2"), hasMessage("oo"), hasSucceeded(), isContainer());
+        asserting.tests().hasStatistics("started=2").matchesExactly(isTest(), isTest(), hasFailed(), hasSucceeded()).hasCount(1, hasMessage("b"));
+        assertEquals(Arrays.asList("3 E|1|1|0|finish|fail|boom   [engine:e]/[t:1] \"one\""), asserting.list(hasFailed()));
         Path broken = Files.write(folder.resolve("broken.record"), BROKEN.getBytes(UTF_8));
         assertRefused("no end 0\n[engine:e] \"e\" started at 0 and never finished", () -> RecordAssert.assertThat(broken).keepsLifecycle());
         Path forgotten = Files.write(folder.resolve("forgotten.record"), FORGOTTEN.getBytes(UTF_8));
         assertRefused("no start 1", () -> RecordAssert.assertThat(forgotten).keepsLifecycle());
         assertRefused("mismatch failed expected 2 actual 1", () -> asserting.hasStatistics("failed=2"));
-        assertRefused("wrong-count\n1 conditions, 6 events", () -> asserting.matchesExactly(isTest()));
+        assertRefused("mismatch started expected 3 actual 1", () -> asserting.containers().hasStatistics("started=3"));
+        assertRefused("wrong-count\n1 conditions, 4 events", () -> asserting.tests().matchesExactly(isTest()));
         assertRefused("no 1\n1 aborted", () -> asserting.matchesLoosely(isTest(), wasAborted()));
         assertRefused("no 1\n0 succeeded", () -> asserting.matchesInOrder(hasSucceeded(), hasFailed()));
-        asserting.exclusive(hasName("one")).exclusive(any(), isTest());
+        Path apart = Files.write(folder.resolve("apart.record"), APART.getBytes(UTF_8));
+        RecordAssert.assertThat(apart).exclusive(isTest()).exclusive(hasName("one"), hasName("two"));
+        assertRefused("no pair\n0 name(one)", () -> asserting.exclusive(hasName("one")));
         assertRefused("no 1 2", () -> asserting.exclusive(isTest()));
         assertRefused("no 1 2", () -> asserting.exclusive(hasName("two"), hasName("one")));
-        assertThrows(IllegalArgumentException.class, () -> asserting.matchesLoosely("tests"));
+        RuntimeException fault = assertThrows(IllegalArgumentException.class, () -> asserting.matchesLoosely("test", "tests"));
+        assertTrue(fault.getMessage().endsWith(" is refused: condition 1 is bad at 4"), fault.getMessage());
         Path none = Files.write(folder.resolve("none.record"), new byte[0]);
         assertThrows(IllegalArgumentException.class, () -> RecordAssert.assertThat(none).keepsLifecycle());
     }
