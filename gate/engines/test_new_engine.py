@@ -1,7 +1,7 @@
 """tools/new_engine makes both kinds of engine: their crates are the pages of the example, under other names, and nothing else is made.
 
-Nothing is compiled here: a try of one such engine costs two minutes of processor time, and its text is the example's, which
-`test_example_engine` tries.
+Nothing is compiled here, since a try of one engine costs more than a minute of processor time: its text is the example's, whose tests are
+those of `test_example_engine`.
 """
 
 import os
