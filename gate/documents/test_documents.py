@@ -11,7 +11,7 @@ from quotes import quotes_of
 from rules import rules_of
 from tree import Tree
 
-LISTED = ["README.md", *(f"docs/{it}.md" for it in "ARCHITECTURE DECISIONS ENGINES FORMATS JUNIT PROVED SPEED TESTING".split())]
+LISTED = ["README.md", *(f"docs/{it}.md" for it in "API ARCHITECTURE DECISIONS ENGINES FORMATS JUNIT PROVED SPEED TESTING".split())]
 """The documents besides the crates' READMEs."""
 
 TREE = Tree(TOP)

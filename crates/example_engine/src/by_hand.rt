@@ -2,15 +2,18 @@
 //!
 //! Proved of each run, beside what [`execute`] proves of any: which events each unit emitted, and in
 //! which order. So a test starts once and finishes once, and succeeds exactly where what it asks is
-//! so. [`BrokenEngine`] has a defect, and promises nothing.
+//! so. Of what [`NumberEngine`] and [`BrokenEngine`] emit nothing is proved: one is a page to copy,
+//! and the other has a defect.
 //!
 //! [`execute`]: engine_testkit::execute
 
 mod broken;
 mod case_engine;
 mod even;
+mod numbers;
 mod running;
 
 pub use broken::{BrokenEngine, Defect};
 pub use case_engine::CaseEngine;
 pub use even::EvenEngine;
+pub use numbers::NumberEngine;

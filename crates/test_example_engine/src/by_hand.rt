@@ -3,3 +3,4 @@
 mod broken;
 mod cases;
 mod even;
+mod numbers;
