@@ -8,7 +8,7 @@ import unittest
 import times
 from fixtures import folder
 
-BURN = "import sys, time; end = time.process_time() + 0.5\nwhile time.process_time() < end: pass\nprint(); sys.stdout.flush(); time.sleep(60)"
+BURN = "import sys, time; end = time.process_time() + 0.5\nwhile time.process_time() < end: pass\nprint(); sys.stdout.flush(); time.sleep(600)"
 BURNS_BELOW = "import subprocess, sys; subprocess.run(['/proc/self/exe', '-SE', '-c', sys.argv[1]])"
 
 
