@@ -1,5 +1,5 @@
 -- What is counted, filtered and matched of a record, and the report of a plan's bytes.
-use Rattle.std.proofs.Common.{◌≡◌, ◌↔◌, ℕ, zero, suc, ◌+◌, Bool, true, false, true≢false, cond, List, [], ◌∷◌, map, take, filter, All, Option, Some, Result, Ok, Err, OnOk, ⊤, sym, refl, ap, subst}
+use Rattle.std.proofs.Common.{◌≡◌, ◌↔◌, ℕ, zero, suc, ◌+◌, Bool, true, false, true≢false, cond, List, [], ◌∷◌, map, take, filter, All, Option, Some, Result, Ok, Err, OnOk, sym, refl, ap, subst}
 use Rattle.std.specs.Io.KnownBytes.{Appends}
 use Rattle.std.proofs.lemmas.List.Elements.{All-from_recursion}
 use Rattle.tk_events.specs.declared.events.Entry.{Entry}
@@ -74,7 +74,7 @@ reported bytes workers old new h = (plan_text h.0.0, ap report_of h.0.1, h.0.2)
 
 -- what a report that was written is, by its answer
 pub reported_on :
-    (bytes : List ℕ) (workers : ℕ) (old new : Option (List ℕ)) (answer : Result ⊤ ReportFault)
+    (bytes : List ℕ) (workers : ℕ) (old new : Option (List ℕ)) (answer : Result (Unit {0}) ReportFault)
     → IsReported bytes workers old new answer
     → OnOk answer ((text : List ℕ) × (report_in bytes ≡ Some text) × Appends old new text)
 reported_on bytes workers old new (Ok u) h = reported bytes workers old new h

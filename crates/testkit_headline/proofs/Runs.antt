@@ -5,7 +5,7 @@ use Rattle.tk_ids.specs.declared.descriptors.Descriptor.{Descriptor}
 use Rattle.tk_events.specs.declared.events.Event.{Event}
 use Rattle.tk_events.specs.declared.events.Entry.{Entry}
 use Rattle.tk_record.specs.Recorded.{Recorded}
-use Rattle.tk_record.specs.Mixing.{IsWorkerOf, of_worker}
+use Rattle.tk_record.specs.Mixing.{IsWorkerOf, Mix, of_worker}
 use Rattle.tk_queue_session.specs.Emission.{entry_by, entries_by}
 use Rattle.tk_queue_session.specs.Closing.{sent_in}
 use Rattle.tk_engine_execute.specs.Results.{RunResults, IsTallied}
@@ -20,24 +20,24 @@ zero_within n es =
     All-map (λ (e : Entry). e.worker ≤ n) (entry_by 0) es (λ i d within. omega arith)
 
 pub holds :
-    (law : EachHasItsList) (may : ℕ → ℕ → ℕ → List Event → Type 0) (table : List Descriptor)
-    (before after : List Event) (units workers : ℕ) (r : Recorded)
-    (run : IsRun may table before after units workers r)
-    → HoldsWhatWasSent before after workers run.shared.lists r
-holds law may table before after units workers r run =
-    let mix = run.shared.mix in
-    let each = law before after workers run.mid run.shared.lists mix in
-    let within : All (λ e. e.worker ≤ workers) run.mid =
+    (law : EachHasItsList) (before after : List Event) (workers : ℕ) (mid : List Entry)
+    (lists : ℕ → List Event) (r : Recorded)
+    → r.entries ≡ entries_by 0 before ++ mid ++ entries_by 0 after
+    → Mix workers mid lists → HoldsWhatWasSent before after workers lists r
+holds law before after workers mid lists r whole mix =
+    let each = law before after workers mid lists mix in
+    let within : All (λ e. e.worker ≤ workers) mid =
     All-weaker (λ (e : Entry). IsWorkerOf workers e.worker) (λ (e : Entry). e.worker ≤ workers)
-    (λ e is. is.1) run.mid mix.workers in
+    (λ e is. is.1) mid mix.workers in
+    let first : All (λ e. e.worker ≤ workers) (entries_by 0 before ++ mid) =
+    All-append (λ e. e.worker ≤ workers) (entries_by 0 before) mid (zero_within workers before)
+    within in
     record {
-      of_worker_zero = ap (of_worker 0) run.whole ∙ each.0;
-      of_each = λ w is. ap (of_worker w) run.whole ∙ each.1 w is;
-      of_no_other = subst (All (λ e. e.worker ≤ workers)) (sym run.whole)
-          (All-append (λ e. e.worker ≤ workers) (entries_by 0 before)
-          (run.mid ++ entries_by 0 after) (zero_within workers before)
-          (All-append (λ e. e.worker ≤ workers) run.mid (entries_by 0 after) within
-          (zero_within workers after)));
+      of_worker_zero = ap (of_worker 0) whole ∙ each.0;
+      of_each = λ w is. ap (of_worker w) whole ∙ each.1 w is;
+      of_no_other = subst (All (λ e. e.worker ≤ workers)) (sym whole)
+          (All-append (λ e. e.worker ≤ workers) (entries_by 0 before ++ mid) (entries_by 0 after)
+          first (zero_within workers after));
     }
 
 -- what `execute` answers is what the senders sent
@@ -48,7 +48,8 @@ pub sent_of_run :
     → IfOk answer (λ r. IsTallied workers r.closed r.recorded.entries)
     → IfOk answer (λ r. HoldsWhatWasSent before after workers (sent_in r.closed) r.recorded)
 sent_of_run law may table before after units workers (Ok r) run tally =
-    let h = holds law may table before after units workers r.recorded run in record {
+    let h = holds law before after workers run.mid run.shared.lists r.recorded run.whole
+    run.shared.mix in record {
       of_worker_zero = h.of_worker_zero;
       of_each = tally.sent;
       of_no_other = h.of_no_other;

@@ -1,11 +1,11 @@
 -- The headline of README.md as one theorem: each field has a part of it as its comment. What a
 -- field speaks of is what the code's own rules say between any two atomic steps, in every schedule:
 -- a `Session` of the queue between workers and receiver, a word of a lock book with the notes of
--- all its seats (`HoldingsFitWord`), the record of a run (`IsRun`).
+-- all its seats (`HoldingsFitWord`), the parts of which the record of a run is made (`IsRun`).
 use Rattle.std.specs.Prelude.{◌≡◌, ◌↔◌, ℕ, true, List, ◌++◌, filter, All, Option, Ok, Some}
 use Rattle.std.specs.Io.KnownBytes.{Appends}
 use Rattle.atomic_table.specs.Table.{State}
-use Rattle.tk_ids.specs.declared.descriptors.Descriptor.{Descriptor}
+use Rattle.tk_events.specs.declared.events.Entry.{Entry}
 use Rattle.tk_events.specs.declared.events.Event.{Event}
 use Rattle.tk_record.specs.Recorded.{Recorded}
 use Rattle.tk_record.specs.Mixing.{Mix}
@@ -25,8 +25,8 @@ use Rattle.tk_locks.specs.LockWord.{HoldingsFitWord, holdings}
 use Rattle.tk_queue_core.specs.declared.items.Item.{Item}
 use Rattle.tk_queue_core.specs.Core.{entries}
 use Rattle.tk_queue_session.specs.declared.session_rules.PassView.{PassView}
+use Rattle.tk_queue_session.specs.Emission.{entries_by}
 use Rattle.tk_queue_session.specs.SessionRule.{Session}
-use Rattle.tk_engine_runs.specs.Run.{IsRun}
 use Rattle.tk_plan_runs.specs.Answers.{IsReported}
 use Rattle.testkit_questions.specs.Laws.{Outcome, IsOutcome, IsSettled}
 use Rattle.testkit_headline.specs.Recordings.{Completes, NothingAfterMarks, HoldsWhatWasSent}
@@ -46,10 +46,9 @@ pub record Headline : Type 0 where
       → NothingAfterMarks s.layout.workers (s.core.taken ++ s.core.waiting)
   -- A run's record holds those events, between the ones before and after its units.
   pub a_runs_record_holds_those_events :
-      (may : ℕ → ℕ → ℕ → List Event → Type 0) (table : List Descriptor)
-      (before after : List Event) (units workers : ℕ) (r : Recorded)
-      (run : IsRun may table before after units workers r)
-      → HoldsWhatWasSent before after workers run.shared.lists r
+      (before after : List Event) (workers : ℕ) (mid : List Entry) (lists : ℕ → List Event)
+      (r : Recorded) → r.entries ≡ entries_by 0 before ++ mid ++ entries_by 0 after
+      → Mix workers mid lists → HoldsWhatWasSent before after workers lists r
   -- Every statistic equals plain counting of that record,
   pub every_statistic_equals_plain_counting :
       (asked : Selected) → All (IsCount asked) (statistic_rows (statistics_of (events_of asked)))
