@@ -97,9 +97,9 @@ class NewEngine(unittest.TestCase):
         lines = "front_desk: engine_testkit\ntest_front_desk tests_may=Threads+Wait: front_desk engine_testkit\n"
         self.assertEqual(made.pop("crates.txt"), before["crates.txt"] + "\n" + lines)
         self.assertIn("`crates/test_front_desk`", made.pop("crates/front_desk/README.md"))
-        for path, example in (("crates/front_desk/src", ENGINE), ("crates/test_front_desk/src", TESTS)):
-            page = made.pop(f"{path}/engine.rt")
-            self.assertIn("front_desk", page)
+        pages = {example: made.pop(f"{path}/engine.rt") for path, example in (("crates/front_desk/src", ENGINE), ("crates/test_front_desk/src", TESTS))}
+        self.assertEqual([name for name in row.names if not any(name in it for it in pages.values())], [])
+        for example, page in pages.items():
             for name, old in row.names.items():
                 page = page.replace(name, old)
             self.assertEqual(page, before[f"{example}/{row.page}"])

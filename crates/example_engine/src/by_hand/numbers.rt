@@ -18,8 +18,8 @@ use std::sync::{Arc, Wait};
 /// Its tests `[engine:numbers]/[number:4]` and `[engine:numbers]/[number:5]`, a unit each.
 #[derive(Drop)]
 pub struct NumberEngine {
-    table: Arc<Table>,
     need: Need,
+    table: Arc<Table>,
     // The root is there: events of it stand before and after the units.
     ghost root: { 0 < length (arc_value table) },
 }
@@ -40,8 +40,8 @@ impl NumberEngine {
         table
             .add(alloc, Some(key), &five, "five", DType::Test)
             .ok()?;
-        let (table, need) = (Arc::new(alloc, table).ok()?, Need::of(0, 0));
-        Some(NumberEngine { table, need })
+        let (need, table) = (Need::of(0, 0), Arc::new(alloc, table).ok()?);
+        Some(NumberEngine { need, table })
     }
 }
 
