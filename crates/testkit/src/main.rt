@@ -24,8 +24,8 @@ fn run<R: Threads + Wait + Sync>(host: &HostRuntime, rt: &R) -> Result<bool, Fau
 fn main(rt: HostRuntime) -> ExitCode {
     let outcome = run(&rt, &rt);
     if let Err(fault) = &outcome {
-        let _ = rt.eprint(FaultLine(fault));
-        if fault.wants_usage() {
+        let is_said = rt.eprint(FaultLine(fault)).is_ok();
+        if is_said && fault.wants_usage() {
             let _ = rt.eprint(USAGE);
         }
     }
