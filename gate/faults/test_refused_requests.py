@@ -182,8 +182,9 @@ def refused_memory_of_a_run(ended: Ended, ordinary: Ended) -> bool:
 
 
 def keeps_status(ended: Ended, ordinary: Ended) -> bool:
-    """A line on standard error that can't be written changes nothing else."""
-    return ended.status == ordinary.status == 2 and ended.output == ordinary.output and not ended.error and bool(ordinary.error)
+    """What can't be written on standard error changes nothing else, and nothing follows it."""
+    is_cut = ordinary.error.startswith(ended.error) and ended.error != ordinary.error
+    return ended.status == ordinary.status == 2 and ended.output == ordinary.output and is_cut
 
 
 def passes(ended: Ended, _ordinary: Ended) -> bool:
