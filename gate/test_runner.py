@@ -3,6 +3,7 @@
 import hashlib
 import json
 import os
+import re
 import shutil
 import subprocess
 import time
@@ -123,6 +124,8 @@ GOOD = 'echo "a line"; echo "30 passed, 0 failed"'
 KIT = "kit-7 logic 89ab"
 PROGRAM = "crates/testkit/out/testkit"
 RUN = "crates/testkit/out/checked"
+BUILT = "#!/bin/sh\nexit 2\n"
+KEPT, PROVED_WITH = "bin/testkit-x86_64-linux", "bin/PROVED-WITH"
 ANSWERS = 'read -r line && [ "$* $line" = "ask count all a record" ] && echo 5'
 
 TRIED = 'printf "tests: 2\\ntest a::b ... ok\\ntest c ... ok\\nrun=ended proved=no\\n"'
@@ -151,12 +154,25 @@ NO_ANSWER = "run=no-answer proved=no"
 COMMIT = "-c user.name=a -c user.email=a -c commit.gpgSign=false commit -q -m new"
 
 
+def edit_sum(at: str) -> None:
+    """Edits the sum of the sources in bin/."""
+    with open(f"{at}/{PROVED_WITH}", encoding="utf-8") as file:
+        text = file.read()
+    write(f"{at}/{PROVED_WITH}", re.sub("(?m)^(# sources .*).$", r"\1-", text))
+
+
+def change_sources(at: str) -> None:
+    """Changes a source, and builds the same program."""
+    write(f"{at}/crates.txt", "testkit:#\n")
+    write(f"{at}/{PROGRAM}", BUILT, 0o755)
+
+
 @dataclass(frozen=True)
 class Checks:
     """A run of `./check`: what stands in place of its commands, and what comes of it."""
 
     name: str
-    counted: str = "61 passed, 0 failed"
+    counted: str = "62 passed, 0 failed"
     says: str = ""
     leaves: bool = False
     """Whether it leaves what `tools/package` asks for."""
@@ -174,17 +190,22 @@ def quick(name: str, counted: str, says: str = "", **how) -> Checks:
 
 CHECKS = [
     Checks("all pass", leaves=True),
-    Checks("rt ci fails, .ci/run", "33 passed, 1 failed", words=(".ci/run",), ci='echo "2 passed, 1 failed"; exit 1'),
-    Checks("many fail", "32 passed, 12 failed", ci='echo "2 passed, 12 failed"; exit 1', gate='echo "29 passed, 0 failed"'),
-    Checks("the runner does nothing", "31 passed, 1 failed", "gate/run was not counted: its status is 0", gate="exit 0"),
-    Checks("nothing ran", "31 passed, 1 failed", "nothing passed", gate='echo "0 passed, 0 failed"'),
-    Checks("a failure, and status 0", "33 passed, 2 failed", "its status is 0", gate='echo "2 passed, 1 failed"'),
-    Checks("none, and status 1", "61 passed, 1 failed", "its status is 1", gate=f"{GOOD}; exit 1"),
-    Checks("a line after the count", "31 passed, 1 failed", "was not counted", gate=f"{GOOD}; echo a line >&2"),
+    Checks("rt ci fails, .ci/run", "34 passed, 1 failed", words=(".ci/run",), ci='echo "2 passed, 1 failed"; exit 1'),
+    Checks("many fail", "33 passed, 12 failed", ci='echo "2 passed, 12 failed"; exit 1', gate='echo "29 passed, 0 failed"'),
+    Checks("the runner does nothing", "32 passed, 1 failed", "gate/run was not counted: its status is 0", gate="exit 0"),
+    Checks("nothing ran", "32 passed, 1 failed", "nothing passed", gate='echo "0 passed, 0 failed"'),
+    Checks("a failure, and status 0", "34 passed, 2 failed", "its status is 0", gate='echo "2 passed, 1 failed"'),
+    Checks("none, and status 1", "62 passed, 1 failed", "its status is 1", gate=f"{GOOD}; exit 1"),
+    Checks("a line after the count", "32 passed, 1 failed", "was not counted", gate=f"{GOOD}; echo a line >&2"),
     Checks("the runner is missing", "gate/run", before=lambda at: os.remove(f"{at}/gate/run")),
     Checks("no program", "30 passed, 1 failed", "there is no", before=lambda at: os.remove(f"{at}/{PROGRAM}")),
-    Checks("./testkit says something else", "60 passed, 1 failed", testkit="echo 6"),
-    Checks("./testkit has a line more", "60 passed, 1 failed", testkit=f"echo a line >&2; {ANSWERS}"),
+    Checks("./testkit says something else", "61 passed, 1 failed", testkit="echo 6"),
+    Checks("./testkit has a line more", "61 passed, 1 failed", testkit=f"echo a line >&2; {ANSWERS}"),
+    Checks("another program in bin/", "61 passed, 1 failed", f"bin/testkit-x86_64-linux is not {PROGRAM}; tools/keep_program renews", before=lambda at: write(f"{at}/{PROGRAM}", "#!/bin/sh\nexit 2;\n", 0o755)),
+    Checks("a sum that was edited", "61 passed, 1 failed", "bin/PROVED-WITH has another sum; tools/keep_program", before=edit_sum),
+    Checks("sources that changed", "61 passed, 1 failed", "bin/PROVED-WITH has another sum", before=change_sources),
+    Checks("no bin/", "61 passed, 0 failed", "there is no bin/", before=lambda at: shutil.rmtree(f"{at}/bin")),
+    Checks("a program that is older than its sources", "61 passed, 1 failed", "that is newer than its sources", before=lambda at: write(f"{at}/crates.txt", "testkit:#\n")),
     Checks("a file added", says=": new is not as it was", before=lambda at: write(f"{at}/new", "")),
     Checks("a commit by a checker", says="it began with", gate=f"git -C {{at}} {COMMIT} --allow-empty; {GOOD}"),
     Checks("no repository", says="not a git repository", before=lambda at: shutil.rmtree(f"{at}/.git")),
@@ -209,7 +230,7 @@ class Check(unittest.TestCase):
     def test_says(self, row):
         at = self.repository(row)
         command = [f"{at}/{row.words[0]}", *row.words[1:]]
-        ran = run(command, cwd="/", stderr=subprocess.STDOUT, env={**os.environ, "PATH": f"{at}/bin:{os.environ['PATH']}"})
+        ran = run(command, cwd="/", stderr=subprocess.STDOUT, env={**os.environ, "PATH": f"{at}/commands:{os.environ['PATH']}"})
         said = ran.output.decode()
         self.assertEqual(status_of(row.counted), ran.status, said)
         self.assertIn(row.says, said)
@@ -232,23 +253,32 @@ class Check(unittest.TestCase):
         elif row.leaves:
             commit, tree = git(at, "rev-parse", "HEAD", "HEAD^{tree}").split()
             self.assertRegex(left.pop("date"), r"\A\d{4}-\d\d-\d\dT\d\d:\d\d:\d\dZ\Z")
-            program = hashlib.sha256(b"#!/bin/sh\nexit 1\n").hexdigest()
-            self.assertEqual({"commit": commit, "tree": tree, "kit": KIT, "program": program, "passed": 61}, left)
+            program = hashlib.sha256(BUILT.encode()).hexdigest()
+            self.assertEqual({"commit": commit, "tree": tree, "kit": KIT, "program": program, "passed": 62}, left)
         else:
             self.assertIsNone(left)
 
     def repository(self, row: Checks) -> str:
         """Makes a clean repository in which each command is a script."""
         at = folder(self)
-        for path in ("check", ".ci/run", ".gitignore", "tools/checked.py", "gate/fixtures.py", "gate/slow.py", "gate/times.py"):
+        tools = [f"tools/{it}" for it in ("asking.py", "checked.py", "kept.py", "listener.py", "sources.sh")]
+        for path in ("check", ".ci/run", ".gitignore", "gate/fixtures.py", "gate/slow.py", "gate/times.py", *tools):
             os.makedirs(os.path.dirname(f"{at}/{path}"), exist_ok=True)
             shutil.copy(f"{TOP}/{path}", f"{at}/{path}")
         rt = f'ci) {row.ci} ;;\nversion) echo "{KIT}"; echo more ;;\n"try --test --seconds 10") {row.tries} ;;'
-        scripts = {"bin/rt": f'case "$*" in\n{rt}\nesac', "gate/run": row.gate.replace("{at}", at), PROGRAM: "exit 1", "testkit": row.testkit}
+        scripts = {"commands/rt": f'case "$*" in\n{rt}\nesac', "gate/run": row.gate.replace("{at}", at), "testkit": row.testkit}
+        scripts["commands/javac"] = "echo javac 99"
         for path, text in scripts.items():
             write(f"{at}/{path}", f"#!/bin/sh\n{text}\n", 0o755)
         write(f"{at}/examples/two_tests.record", "a record\n")
         write(f"{at}/gate/slow_tests", "")
+        write(f"{at}/crates.txt", "testkit:\n")
+        write(f"{at}/{PROGRAM}", BUILT, 0o755)
+        write(f"{at}/{KEPT}", BUILT, 0o755)
+        write(f"{at}/bin/testkit-listener.jar", "a jar")
+        sources = run(["sh", "-c", ". tools/sources.sh; sum_of_sources"], cwd=at).output.decode().strip()
+        sums = run(["sha256sum", "testkit-listener.jar", "testkit-x86_64-linux"], cwd=f"{at}/bin").output.decode()
+        write(f"{at}/{PROVED_WITH}", f"# kit {KIT}\n# sources {sources}\n# javac-0\n{sums}")
         write(f"{at}/{RUN}", '"an older run"')
         for crate in os.listdir(f"{TOP}/crates"):
             os.makedirs(f"{at}/crates/{crate}", exist_ok=True)

@@ -6,6 +6,7 @@ the sum of each file, so that `sha256sum -c PROVED-WITH` checks them.
 
 import hashlib
 import os
+import re
 import subprocess
 from typing import Dict, List
 
@@ -49,6 +50,11 @@ def jar_of(top: str) -> bytes:
     return listener.make_jar({name: read(f"{top}/{name}") for name in [*names, "LICENSE", "VERSION"]})
 
 
+def can_compare_jar(top: str) -> bool:
+    """Whether the compiler that made the jar of bin/ is here."""
+    return listener.can_be_made() and f"# {listener.compiler()}\n".encode() in read(f"{top}/bin/{PROVED_WITH}")
+
+
 def proved_with(top: str, compiler: str, files: Dict[str, bytes]) -> bytes:
     """Returns the text of PROVED-WITH."""
     kit = subprocess.run(["rt", "version"], stdin=subprocess.DEVNULL, stdout=subprocess.PIPE, text=True, check=True).stdout.splitlines()[0]
@@ -83,3 +89,20 @@ def renew(top: str) -> List[str]:
         os.chmod(f"{top}/bin/.{name}", 0o755 if name == PROGRAM else 0o644)
         os.replace(f"{top}/bin/.{name}", f"{top}/bin/{name}")
     return changed
+
+
+def faults(top: str) -> List[str]:
+    """Says what is wrong with bin/. The jar is compared where the compiler that made it is here."""
+    here = {name: read(f"{top}/bin/{name}") for name in (PROGRAM, listener.JAR, PROVED_WITH)}
+    found = [f"bin/{name} is missing" for name, data in here.items() if not data]
+    if found:
+        return found
+    if here[PROGRAM] != built(top):
+        found.append(f"bin/{PROGRAM} is not {checked.PROGRAM}")
+    if can_compare_jar(top) and here[listener.JAR] != jar_of(top):
+        found.append(f"bin/{listener.JAR} is not the jar of {listener.SOURCES}")
+    said = here.pop(PROVED_WITH)
+    compiler = "".join(re.findall("^# (javac-.*)", said.decode(errors="replace"), re.MULTILINE))
+    if without_kit(said) != without_kit(proved_with(top, compiler, here)):
+        found.append(f"bin/{PROVED_WITH} has another sum")
+    return found
