@@ -45,7 +45,8 @@ fn is_refused(alloc: Global, line: &str, fault: &str) -> bool {
 #[test]
 fn a_part_of_the_events(rt: HostRuntime) {
     let alloc = rt.alloc();
-    let statistics = "skipped 1\nstarted 1\nfinished 1\naborted 0\nsucceeded 0\nfailed 1\nreporting 0\ndynamic 0\nfiles 0\n";
+    let statistics =
+        "skipped 1\nstarted 1\nfinished 1\naborted 0\nsucceeded 0\nfailed 1\nreporting 0\ndynamic 0\nfiles 0\n";
     let rows = [
         ("stats tests started=1 failed=1", true, statistics),
         ("executions containers", true, "0 succeeded 0 9\n"),
@@ -67,8 +68,10 @@ fn a_part_of_the_events(rt: HostRuntime) {
 #[test]
 fn explanations_of_a_part(rt: HostRuntime) {
     let alloc = rt.alloc();
-    let statistics = "skipped 1\nstarted 1\nfinished 1\naborted 0\nsucceeded 0\nfailed 1\nreporting 0\ndynamic 0\nfiles 0\nmismatch failed expected 2 actual 1\n    2: E|1|1|2|finish|fail|boom   [engine:e]/[t:1] \"one\"\n";
-    let surplus = "wrong-count\n1 conditions, 3 events\n    2: E|1|1|2|finish|fail|boom   [engine:e]/[t:1] \"one\"\n";
+    let statistics =
+        "skipped 1\nstarted 1\nfinished 1\naborted 0\nsucceeded 0\nfailed 1\nreporting 0\ndynamic 0\nfiles 0\nmismatch failed expected 2 actual 1\n    2: E|1|1|2|finish|fail|boom   [engine:e]/[t:1] \"one\"\n";
+    let surplus =
+        "wrong-count\n1 conditions, 3 events\n    2: E|1|1|2|finish|fail|boom   [engine:e]/[t:1] \"one\"\n";
     let rows = [
         ("explain stats tests failed=2", false, statistics),
         ("explain tests exactly started", false, surplus),
