@@ -1,5 +1,4 @@
-//! Engines and their runs: the engine of a plan, which emits the scripts of the plan's units, and
-//! the public names of the parts below, so that a crate above names this one alone.
+//! The engine of a plan, which emits the scripts of the plan's units.
 #![tactic(auto)]
 
 mod keys;

@@ -1,4 +1,4 @@
-//! The report of a run, and of a plan.
+//! Runs of a plan from its bytes: the report of a run, and its record.
 #![tactic(auto)]
 
 mod fault_texts;

@@ -1,4 +1,5 @@
-//! Questions about the events of a record: conditions, matchers, executions, lifecycle.
+//! Questions about the events of a record: selections by a condition, matchers, executions, and
+//! which of them overlap.
 #![tactic(auto)]
 
 mod answers;
