@@ -42,7 +42,7 @@ abbrev pub IfLoaded : Transfer → (List ℕ → Type 0) → Type 0
 IfLoaded t Holds = IfSome t.input (λ bytes. (length bytes ≤ MAX_TEXT) × Holds bytes)
 
 -- the bytes are a plan, and W holds of what is written of it: the plan's report, or the text of the
--- record of a run by so many workers
+-- record of a run by this number of workers
 abbrev pub OfOutput : RunOutput → ℕ → List ℕ → (List ℕ → Type 0) → Type 0
 OfOutput outputs.Report workers bytes W = OfPlan bytes W
 OfOutput outputs.Record workers bytes W = OfRun bytes workers W
@@ -50,7 +50,7 @@ OfOutput outputs.Record workers bytes W = OfRun bytes workers W
 abbrev pub OfOptions : RunOptions → List ℕ → (List ℕ → Type 0) → Type 0
 OfOptions options = OfOutput options.output options.workers
 
--- the input is a plan that may be run by so many workers, and a text of its run was written
+-- the input is a plan that may be run by the number of workers, and a text of its run was written
 abbrev pub IsPlanDone : RunOptions → Transfer → Type 0
 IsPlanDone options t =
     IfLoaded t (λ bytes. OfOptions options bytes (Appends t.old t.new)) × MayWork options.workers

@@ -43,9 +43,9 @@ pub(crate) enum Row {
     Counts(usize, usize),
     /// These executions overlap.
     Overlap(Execution, Execution, Writers),
-    /// There are so many executions.
+    /// How many executions there are.
     Executions(usize),
-    /// There are so many events more.
+    /// How many events more there are.
     More(usize),
     /// Why the record doesn't keep the lifecycle.
     Sentence(Sentence),

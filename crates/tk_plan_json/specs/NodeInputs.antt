@@ -10,7 +10,8 @@ use Rattle.tk_plan.specs.declared.trees.nodes.Lock.{Lock}
 use Rattle.tk_plan.specs.Trees.{Tree, tree, Forest, no_trees, more}
 use Rattle.tk_plan_json_members.specs.Checks.{member_at, item_at}
 use Rattle.tk_plan_json_members.specs.Contents.{json_text, json_optional, json_truth, json_dtype}
-use Rattle.tk_plan_json_members.specs.Contents.{json_segment, json_concurrent, json_locks, status_in}
+use Rattle.tk_plan_json_members.specs.Contents.{json_segment, json_concurrent, json_locks}
+use Rattle.tk_plan_json_members.specs.Contents.{status_in}
 use Rattle.tk_plan_json_members.specs.Contents.{message_in, json_entries, files_of, repeats, listed}
 
 -- A value that stands for a node: its place as a JSON Pointer, its level, whether it is static,

@@ -5,8 +5,10 @@ use Rattle.serde_json.specs.Find.{get}
 use Rattle.serde_json.specs.View.{view}
 use Rattle.tk_plan_json_members.specs.Checks.{Row}
 use Rattle.tk_plan_json_members.specs.Contents.{json_text, json_optional, json_dtype, listed}
-use Rattle.tk_plan_json_members.specs.Rows.{dtype_row, segment_row, name_row, mode_row, isolated_row}
-use Rattle.tk_plan_json_members.specs.Rows.{locks_row, skip_row, result_row, entries_row, files_rows}
+use Rattle.tk_plan_json_members.specs.Rows.{dtype_row, segment_row, name_row, mode_row}
+use Rattle.tk_plan_json_members.specs.Rows.{isolated_row}
+use Rattle.tk_plan_json_members.specs.Rows.{locks_row, skip_row, result_row, entries_row}
+use Rattle.tk_plan_json_members.specs.Rows.{files_rows}
 use Rattle.tk_plan_json_members.specs.Rows.{children_row, dynamic_row}
 use Rattle.tk_plan_json.specs.NodeInputs.{concurrent_of, isolated_of, locks_of}
 use Rattle.tk_plan_json.specs.NodeInputs.{children_of, dynamic_of}
