@@ -1,6 +1,9 @@
 -- What a try to take a need says of the words that the seat read.
-use Rattle.std.specs.Prelude.{◌≡◌, ◌≢◌, ℕ, List, [], ◌∷◌, ◌++◌, All, flat_map}
+use Rattle.std.specs.Prelude.{◌≡◌, ◌≢◌, ℕ, ◌+◌, List, [], ◌∷◌, ◌++◌, All, Some, flat_map}
 use Rattle.tk_lanes.specs.Lanes.{Admits}
+use Rattle.tk_locks.specs.NeedView.{NeedView}
+use Rattle.tk_locks.specs.Needs.{word_of}
+use Rattle.tk_locks.specs.Holdings.{WereHeld}
 use Rattle.tk_locks.specs.declared.books.Busy.{Busy}
 use Rattle.tk_locks.specs.declared.books.Busy.TheVariants.{Held, Moved}
 
@@ -34,3 +37,10 @@ WereBusy old new need =
 abbrev pub WasFreeAtLast : List ℕ → List ℕ → ℕ → Type 0
 WasFreeAtLast old new need =
     (tried : List ℕ) × WereBusy old tried need × WasFree tried new need
+
+-- The need was added to the word that was read last, and the sum is the word of what the seats then
+-- held, the need among it.
+abbrev pub TookLast : List ℕ → NeedView → Type 0
+TookLast read n =
+    (earlier : List ℕ) × (seen : ℕ) × (read ≡ earlier ++ seen ∷ [])
+    × WereHeld (Some n) (seen + word_of n)

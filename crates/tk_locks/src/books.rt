@@ -6,7 +6,7 @@ ghost use Rattle.tk_locks.specs.Holdings.{AreCompatible, WereHeld, held_lane, he
 ghost use Rattle.tk_locks.specs.Books.{book_view, empty};
 ghost use Rattle.tk_locks.specs.FaultTexts.{book_fault_text, busy_text};
 ghost use Rattle.tk_locks.specs.LockWord.{seat_note};
-ghost use Rattle.tk_locks.specs.Tries.{WasFree, WasBusy, WasFreeAtLast};
+ghost use Rattle.tk_locks.specs.Tries.{TookLast, WasFree, WasBusy, WasFreeAtLast};
 ghost use Rattle.tk_base.specs.declared.limits.TheConstants.{MAX_WORKERS};
 ghost use Rattle.tk_locks.specs.declared.books.BookFault.TheVariants.{Seats};
 
@@ -165,7 +165,8 @@ impl Book {
     /// Takes the need, where the word that is read admits it and the exchange finds the same word.
     ///
     /// `seat` must be a seat of this book that holds nothing. It takes one load and at most one
-    /// exchange. What all seats hold after the exchange doesn't conflict (`together`).
+    /// exchange. The word that it writes is that of what all seats hold then,
+    /// of which no two needs conflict (`together`).
     ///
     /// # Errors
     /// `Held` or `Moved`, with the words that were read. The seat then holds nothing.
@@ -175,7 +176,7 @@ impl Book {
         ensures book { seat.new.book ≡ seat.old.book }
         ensures held { IfOk result (λ _. seat.new.holds ≡ Some need) }
         ensures free { IfOk result (λ _. WasFree seat.old.read seat.new.read (word_of need)) }
-        ensures together { IfOk result (λ _. (word : ℕ) × WereHeld (Some need) word) }
+        ensures together { IfOk result (λ _. TookLast seat.new.read need) }
         ensures empty { IfErr result (λ _. seat.new.holds ≡ None) }
         ensures busy { IfErr result (WasBusy seat.old.read seat.new.read (word_of need)) }
     {
@@ -206,7 +207,7 @@ impl Book {
         ensures book { seat.new.book ≡ seat.old.book }
         ensures held { seat.new.holds ≡ Some need }
         ensures free { WasFreeAtLast seat.old.read seat.new.read (word_of need) }
-        ensures together { (word : ℕ) × WereHeld (Some need) word }
+        ensures together { TookLast seat.new.read need }
     {
         let mut delay = RetryDelay::new();
         for _ in rt.forever() {

@@ -35,8 +35,8 @@ abbrev pub fresh_receiver : TableId → List Descriptor → ℕ → ReceiverView
 fresh_receiver session table n =
     record { session = session; table = table; workers = n; taken = [] }
 
--- At one moment nothing waited: what was taken is then all that the workers had put into the queue,
--- of each worker what it had sent, and its mark if it had ended.
+-- A state of the core in which this was taken and nothing waits: of each worker, what was taken is
+-- what it sent in that state, and its mark if it ended.
 pub record NothingWaited (r : ReceiverView) : Type 0 where
   pub core : Core
   pub is_core : IsCore r.workers core

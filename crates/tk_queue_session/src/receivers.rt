@@ -118,8 +118,8 @@ impl Receiver {
     }
 
     /// Takes the first item that waits, or returns `None` where the queue was empty at one moment
-    /// of the call: all that the workers had sent until then was taken. Nothing of a worker is taken
-    /// after its mark.
+    /// of the call; `empty` then names a state of the core in which nothing waits. Nothing of a worker
+    /// is taken after its mark.
     pub fn take<R: Wait>(&mut self, rt: &R) -> Option<Item>
         ensures some { IfSome result (λ item. self.new ≡ takes self.old item) }
         ensures worker { IfSome result (λ item. IsWorkerOf self.old.workers (worker_of item)) }

@@ -1,6 +1,7 @@
-use Rattle.std.proofs.Common.{◌∙◌, ◌≡◌, ◌+◌, ◌<◌, ◌^◌, ◌∷◌, [], Option, None, ⊎_elim, sym, ap, refl, arith}
+use Rattle.std.proofs.Common.{◌∙◌, ◌≡◌, ◌+◌, ◌<◌, ◌^◌, ◌∷◌, [], ℕ, Option, Some, None, ⊎_elim, sym, ap, subst, refl, arith}
 use Rattle.atomic_table.specs.Table.{Me}
 use Rattle.tk_locks.specs.NeedView.{NeedView}
+use Rattle.tk_locks.specs.Holdings.{WereHeld}
 use Rattle.tk_locks.specs.Books.{BookView, BookSeatView}
 use Rattle.tk_locks.specs.declared.rules.SeatNote.{SeatNote}
 use Rattle.tk_locks.proofs.LaneWords.{has_room}
@@ -30,6 +31,13 @@ returns-then-found-seen-clause-together c =
     ∙ ap (λ (h : Option NeedView). h ∷ [])
     (ap (λ (z : BookSeatView). z.holds) c.seat.view_is ∙ c.requires.empty) in
     ⊎_elim
-    (λ e. (_, e.1.together c.args.need refl none))
+    (λ e. (
+      c.seat.inside.seat.me.0.seen,
+      c.load-seen.result,
+      ap (λ (m : Me NeedView SeatNote). m.0.seen) e.1.after
+          ∙ ap (λ (m : Me NeedView SeatNote). m.0.seen) after,
+      subst (λ (k : ℕ). WereHeld (Some c.args.need) (c.load-seen.result + k))
+          c.word-word.ensures (e.1.together c.args.need refl none),
+    ))
     (λ e. absurd (e.0 c.if-found-seen.true))
     c.compare_exchange_with-found.ensures.2
