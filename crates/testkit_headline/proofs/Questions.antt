@@ -14,6 +14,7 @@ answered law words None old new (Ok is_yes) h = h
 answered law words (Some input) old new (Ok is_yes) h = record {
   output = h.0;
   written = h.2;
+  promised = h.1;
   only = λ other settled is. law words input other (Answered is_yes h.0) settled tt is h.1;
 }
 answered law words remaining old new (Err fault) h = h
