@@ -72,6 +72,25 @@ def build_crate(folder: str, line: str, source: str, command: str = "run", input
     return f"{crate}/out"
 
 
+MANIFEST = """package = {name = "plain", version = "0.0.0", edition = "2021"}
+dependencies = {serde = {version = "1", features = ["derive"]}, serde_json = "1"}
+"""
+SOURCE = '{crates-io = {replace-with = "debian"}, debian = {directory = "/usr/share/cargo/registry"}}'
+"""Where Debian's package librust-serde-json-dev has its crates."""
+
+
+def compile_on_serde(folder: str, source: str) -> str:
+    """Compiles a plain Rust program of `bench/` on serde_json as Debian has it; returns its path."""
+    for path, text in (("Cargo.toml", MANIFEST), (".cargo/config.toml", f"source = {SOURCE}")):
+        os.makedirs(os.path.dirname(f"{folder}/plain/{path}"), exist_ok=True)
+        with open(f"{folder}/plain/{path}", "w", encoding="utf-8") as file:
+            file.write(text)
+    os.makedirs(f"{folder}/plain/src")
+    shutil.copy(f"{BENCH}/{source}", f"{folder}/plain/src/main.rs")
+    call(["cargo", "build", "--release", "--offline"], f"{folder}/plain")
+    return f"{folder}/plain/target/release/plain"
+
+
 def compile_plain(folder: str, source: str, flags: Sequence[str] = ("-O",)) -> str:
     """Compiles a plain Rust program of `bench/`; returns its path."""
     call(["rustc", "--edition", "2021", *flags, f"{BENCH}/{source}", "-o", f"{folder}/plain"])

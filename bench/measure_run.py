@@ -1,7 +1,7 @@
 #!/usr/bin/env -S python3 -B
 """Times `run` with 1, 2 and 4 workers on three plans beside a plain Rust program that does the same.
 
-It wants rustc, and leaves nothing behind. The reports of both have to be the same. Each line: workers; seconds of processor time and by
+It wants cargo and Debian's librust-serde-json-dev, and leaves nothing behind. The reports of both have to be the same. Each line: workers; seconds of processor time and by
 the clock, medians of five runs in turn; the ratios plain / ours (above 1 we are faster); the most memory.
 """
 
@@ -34,7 +34,7 @@ PLANS: Dict[str, Callable[[], Node]] = {
 
 
 def measure(folder: str, program: str) -> None:
-    plain = building.compile_plain(folder, "run/plain/main.rs")
+    plain = building.compile_on_serde(folder, "run/plain.rs")
     print(timing.load())
     for name, members in PLANS.items():
         plan = f"{folder}/{name}"
