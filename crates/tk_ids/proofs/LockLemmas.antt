@@ -106,6 +106,7 @@ mode_added (m ∷ ls) l name s =
     apart e true false f g = rw (f, g) refl
     apart e false true f g = rw (f, g) refl
     apart e false false f g = rw (f, g) refl
+
     same : bytes_eq m.name l.name ≡ true → (b : Bool) → bytes_eq m.name name ≡ b
         → cond (bytes_eq m.name name) (Some (stronger m.mode l.mode)) (mode_of ls name) ≡ mode_with (m ∷ ls) l name
     same is b f =
@@ -116,6 +117,7 @@ mode_added (m ∷ ls) l name s =
             → cond (bytes_eq m.name name) (Some (stronger m.mode l.mode)) (mode_of ls name) ≡ mode_with (m ∷ ls) l name
         by true f g = rw (f, g) refl
         by false f g = rw (f, g) refl
+
     first : order l.name m.name ≡ Less → (b : Bool) → bytes_eq l.name name ≡ b
         → cond (bytes_eq l.name name) (Some l.mode) (mode_of (m ∷ ls) name) ≡ mode_with (m ∷ ls) l name
     first less true f =

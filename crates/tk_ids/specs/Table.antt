@@ -1,5 +1,5 @@
 -- The table of descriptors, as a list.
-use Rattle.std.specs.Prelude.{◌≡◌, ℕ, zero, suc, ◌<◌, ◌≤◌, take, List, [], ◌∷◌, ◌++◌, length, map, Option, Some, None}
+use Rattle.std.specs.Prelude.{◌≡◌, ℕ, zero, suc, ◌<◌, ◌≤◌, List, [], ◌∷◌, ◌++◌, length, map, Option, Some, None}
 use Rattle.std.specs.Prelude.{option_map, slice_get, Result, Ok, Err}
 use Rattle.tk_ids.specs.declared.tables.TheConstants.{MAX_DESCRIPTORS}
 use Rattle.tk_ids.specs.declared.id_faults.IdFault.TheVariants as id_faults
@@ -79,10 +79,11 @@ IsKept e = (e.0 ≡ id_text e.1.id) × IsId e.1.id × FitsLimits e.1.id
 abbrev pub HasParent : List Descriptor → List SegmentView → Type 0
 HasParent table id = 1 < length id → HasId table (parent_of id)
 
--- of each descriptor that isn't a root's, the one above it has a lower key
+-- of each id that isn't a root's, the one above it has a lower key
 abbrev pub HasParents : List Descriptor → Type 0
 HasParents table =
-    (key : ℕ) (d : Descriptor) → slice_get table key ≡ Some d → HasParent (take key table) d.id
+    (key : ℕ) (id : List SegmentView) → slice_get (ids_of table) key ≡ Some id → 1 < length id →
+    (above : ℕ) × (above < key) × (slice_get (ids_of table) above ≡ Some (parent_of id))
 
 -- the locks of each descriptor are in the order of their names, each of which is there once
 abbrev pub HaveLocks : List Descriptor → Type 0

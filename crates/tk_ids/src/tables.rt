@@ -16,7 +16,7 @@ use indexmap::IndexMap;
 use std::alloc::{AllocError, AllocFailed, Global};
 use std::error::Error;
 use std::marker::Model;
-use std::{fmt, slice};
+use std::{fmt, mem, slice};
 
 /// Why a table refuses a descriptor.
 #[derive(Clone, Copy, Debug, PartialEq, Eq)]
@@ -219,8 +219,8 @@ impl Table {
         }
     }
 
-    /// Shows what holds of each table: of each descriptor that isn't a root's, the one above it has
-    /// a lower key.
+    /// Shows what holds of each table: of each id that isn't a root's, the one above it has a lower
+    /// key.
     pub fn shows_parents(&self)
         ensures { HasParents self.now }
     {
@@ -389,6 +389,19 @@ impl Table {
         self.push(descriptor)
     }
 
+    // Gives the descriptor with this key other locks, and returns those that it had.
+    fn replace_locks(&mut self, key: u32, locks: Locks) -> Locks
+        requires { key < length self.old }
+        ensures before { result ≡ locks_at self.old key }
+        ensures after { self.new ≡ with_locks self.old key locks }
+    {
+        locks.shows_order();
+        let Some(descriptor) = self.by_text.get_index_mut(key as usize) else {
+            return locks;
+        };
+        mem::replace(&mut descriptor.locks, locks)
+    }
+
     /// Adds a lock to the descriptor with this key. Where it has one of this name, the stronger of
     /// the two modes stays.
     ///
@@ -411,9 +424,10 @@ impl Table {
             return Err(LockFault::NoName);
         }
         let name = Text::copy(alloc, name)?;
-        if let Some(descriptor) = self.by_text.get_index_mut(key as usize) {
-            descriptor.locks.add(alloc, Lock { name, mode })?;
-        }
+        let mut locks = self.replace_locks(key, Locks::new());
+        let added = locks.add(alloc, Lock { name, mode });
+        let _none = self.replace_locks(key, locks);
+        added?;
         Ok(())
     }
 
@@ -429,9 +443,10 @@ impl Table {
             with_locks self.old key (locks_at self.old key ++ lock ∷ [])) }
         ensures err { OnErr result (self.new ≡ self.old) }
     {
-        if let Some(descriptor) = self.by_text.get_index_mut(key as usize) {
-            descriptor.locks.push(alloc, lock)?;
-        }
+        let mut locks = self.replace_locks(key, Locks::new());
+        let pushed = locks.push(alloc, lock);
+        let _none = self.replace_locks(key, locks);
+        pushed?;
         Ok(())
     }
 }
