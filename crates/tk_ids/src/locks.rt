@@ -1,5 +1,5 @@
 //! The locks that descriptors declare.
-ghost use Rattle.std.specs.Prelude.{◌≡◌, ◌↔◌, ◌<◌, ◌++◌, ◌∷◌, ℕ, List, [], length, IsTrue, IfOk, OnOk, OnErr};
+ghost use Rattle.std.specs.Prelude.{◌≡◌, ◌==◌, ◌<◌, ◌++◌, ◌∷◌, ℕ, List, [], length, IsTrue, IfOk, OnOk, OnErr};
 ghost use Rattle.std.specs.Prelude.{◌≤◌, true, false, slice_index_or, bytes_eq};
 ghost use Rattle.tk_ids.specs.declared.locks.Lock.{Lock};
 ghost use Rattle.std.specs.List.Sorted.{IsPartitionPoint};
@@ -153,7 +153,7 @@ impl Locks {
 
     /// Whether there is no lock.
     pub fn is_empty(&self) -> bool
-        ensures { IsTrue result ↔ (self.now ≡ []) }
+        ensures { result ≡ (length self.now == 0) }
     {
         self.as_slice().is_empty()
     }
