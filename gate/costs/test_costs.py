@@ -5,7 +5,8 @@ the reads and the writes that it may take. `count.c` is put before the C library
 on each machine, so a limit is a fifth above what was counted, or one. The requests of some plans may be a fiftieth to a twentieth above
 alone, so that one more for each node, message or registration is met. The least memory of a small plan shows how many places its queue has.
 The seconds were measured on one machine: a limit is four times what they were, twice for a machine half as fast, and twice for what the
-program may need more. Where a run waits, its seconds by the clock have a limit too.
+program may need more. Where a run waits, its seconds by the clock have a limit too. A run that is only too slow, as on a busy machine, is
+repeated.
 
 `OF_BODIES` has the same of tests of engines whose tests have bodies, which the program doesn't run. `BESIDE` has questions of which one may
 take at most some times as long as the other, whatever the machine.
@@ -316,7 +317,7 @@ ROWS = [
     row("plan/entries and a fault", "run", lambda: plan_of_entries(',"files":[""]'), Costs(2.8, 370_000, 3_700_000, 278, 0), "testkit: plan member /root/files/0 is bad\n"),
     row("plan/entries of two pairs", "run", lambda: plan_of_entries(entry='[["a","%d"],["b",""]]', count=600_000), Costs(3.9, 543_000, 5_671_000, 278, 3), "skipped 0\n"),
     row("plan/a long name", "run", lambda: plan(node("").replace('"n"', f'"{"n" * 15 * KIB * KIB}"')), Costs(0.6, 75_000, 170, 299, 3), "skipped 0\n"),
-    row("plan/units with entries", "run", units_with_entries, Costs(1.8, 187_000, 1_303_000, 96, 172), "skipped 0\n"),
+    row("plan/units with entries", "run", units_with_entries, Costs(3, 187_000, 1_303_000, 96, 172), "skipped 0\n"),
     row("plan/a long text", "run", lambda: plan_of_a_text("x" * 16_000_000), Costs(0.6, 57_200, 170, 299, 3), "skipped 0\n"),
     row("plan/a long text with escapes", "run", lambda: plan_of_a_text("\\n" * 8_000_000), Costs(1.5, 47_900, 190, 299, 3), "skipped 0\n"),
     row("plan/nodes", "run", lambda: plan_of_nodes(65_000, ""), Costs(1.5, 102_600, 819_400, 72, 56), "skipped 0\n"),
@@ -456,17 +457,33 @@ def faults_of(row: Row, costs: Costs, status: int, wrote: str) -> List[str]:
     return costs.above(row.limit) + little + ([] if answered else [f"status {status}, and it writes {wrote!r}"])
 
 
+MOST_RUNS = 3
+"""How often a row is run at most that is only too slow: a busy machine makes a run slower, and none faster."""
+
+
+def faults_of_runs(row: Row, run: Callable[[], Tuple[Costs, int, str]]) -> List[str]:
+    """What is wrong with a row: with its first run that isn't only too slow, or else with its last."""
+    faults: List[str] = []
+    for _ in range(MOST_RUNS):
+        faults = faults_of(row, *run())
+        if not faults or not all(fault.startswith(("seconds ", "clock ")) for fault in faults):
+            break
+    return faults
+
+
 class WithCounts(WithLibrary):
     """Tests for which `count.c` is compiled."""
 
     SOURCE = f"{TOP}/gate/costs/count.c"
 
-
     def check(self, row: Row, program: str) -> None:
-        came = costs_of(row, program, self.library, folder(self))
-        if fixtures.CHOSEN:
-            print(f"{row.name}: {came[0]}")
-        self.assertEqual([], faults_of(row, *came))
+        def run() -> Tuple[Costs, int, str]:
+            came = costs_of(row, program, self.library, folder(self))
+            if fixtures.CHOSEN:
+                print(f"{row.name}: {came[0]}")
+            return came
+
+        self.assertEqual([], faults_of_runs(row, run))
 
 
 class OfBodies(WithCounts):
@@ -539,6 +556,19 @@ EXAMPLES = [
 ]
 
 
+SLOW, FAST = Costs(0.5, 9, 9, 9, 9, 0), Costs(0.1, 9, 9, 9, 9, 0)
+LATE, LARGE = Costs(0.1, 9, 9, 9, 9, 2), Costs(0.5, 3_000, 9, 9, 9, 0)
+RUNS = [
+    ("a fast run", [FAST], ""),
+    ("a slow run and a fast one", [SLOW, FAST], ""),
+    ("a run that waits too long, a slow one and a fast one", [LATE, SLOW, FAST], ""),
+    ("slow runs", [SLOW, LATE, SLOW], "seconds"),
+    ("a slow run with much memory", [LARGE], "seconds, memory"),
+    ("a slow run, and one with much memory", [SLOW, LARGE], "seconds, memory"),
+]
+"""What runs of a row cost, and the costs that are above its limit."""
+
+
 class OfExamples(WithCounts):
     """The counts and the limits themselves."""
 
@@ -564,6 +594,14 @@ class OfExamples(WithCounts):
             # (what is right besides is found right: the answer, where it isn't what is wrong)
             is_answered = "status" in fault or "it writes" in fault
             self.assertTrue(is_answered or "it writes" not in "; ".join(faults), faults)
+
+    @parameterized(RUNS, name=lambda row: row[0])
+    def test_runs(self, it):
+        _, runs, wanted = it
+        left = iter(runs)
+        row = Row("runs", [], lambda: b"", Costs(0.4, 2_000, 200, 40, 40, 1), "xx")
+        faults = faults_of_runs(row, lambda: (next(left), 0, "xx"))
+        self.assertEqual((wanted, []), (", ".join(fault.split()[0] for fault in faults), list(left)))
 
     def test_ratio(self):
         short, long = "-c pass", "-c sum(range(5_000_000))"
