@@ -7,8 +7,14 @@ and do not repeat it. `LATEST` is the version that the program writes, and the h
 LATEST = 2
 """The version of record and replay texts that is written, and the highest that is read; so of plans."""
 
+LOCK_VERSION = 3
+"""The version of record texts that may have locks: it is written where there are any, and read too."""
+
 VERSIONS = tuple(range(1, LATEST + 1))
-"""The versions of record texts, replay texts and plans that are read."""
+"""The versions of replay texts and plans that are read."""
+
+RECORD_VERSIONS = VERSIONS + (LOCK_VERSION,)
+"""The versions of record texts that are read."""
 
 FILE_VERSION = 2
 """The version from which on a text may have files."""
