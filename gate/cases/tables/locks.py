@@ -14,7 +14,7 @@ MORE = [*NODES, "N|B|[engine:e]/[t:30]|t30", "N|T|[engine:e]/[t:30]/[t:6]|t6", "
 
 def held(locks: str, events: str, nodes: List[str] = NODES) -> str:
     """A record of two containers and three tests; the locks are keys, modes and names, the events keys and tails, of worker 1."""
-    lines = [f"L|{lock.strip().replace(' ', '|')}" for lock in locks.split(",") if lock]
+    lines = ["L|" + "|".join(lock.split(None, 2)) for lock in locks.split(",") if lock]
     return LOCK_HEADER + "".join(line + "\n" for line in [*nodes, *lines, *events_of(events)])
 
 
