@@ -10,7 +10,7 @@ from model.rows import overlap_rows
 from model.texts import write_field
 
 GLOBAL = b"global"
-"""The lock that each test holds that has no child, where another writes it."""
+"""The lock over which who holds it for writing conflicts with each test that has no child."""
 
 
 def locks_of(record: Record, key: int) -> Dict[bytes, str]:

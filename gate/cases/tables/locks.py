@@ -71,6 +71,7 @@ NO = [
     ("two locks, of which the least is named", held("3 W db, 3 W net, 4 W db, 4 W net", BESIDE), "0 1 db"),
     ("two locks, of which both read the least", held("3 R db, 3 W net, 4 R db, 4 R net", BESIDE), "0 1 net"),
     ("two locks in byte order", held("3 W Z, 3 W a, 4 W Z, 4 W a", BESIDE), "0 1 Z"),
+    ("two locks in the order of their names, and not of their fields", held("3 W az, 3 W a\\pb, 4 W az, 4 W a\\pb", BESIDE), "0 1 az"),
     ("a container and a test beside it", held("1 W db, 3 R db", AROUND), "0 1 db"),
     ("a test whose id's text begins another's", held("3 W db, 5 W db", "3 start, 5 start, 3 finish|ok, 5 finish|ok", MORE), "0 1 db"),
     ("two roots", held("0 W db, 7 W db", "0 start, 7 start, 7 finish|ok, 0 finish|ok", MORE), "0 1 db"),
@@ -105,13 +106,16 @@ def overlap(first: str, second: str, name: str) -> str:
     return f"[engine:e]/{first} and [engine:e]/{second} overlap, over {name}"
 
 
+OF_THREE_AND_FOUR = ('[t:3] "t3" (0 to 2)', '[t:4] "t4" (1 to 3)')
+OF_TWO_AND_THREE = ('[c:1]/[t:2] "t2" (1 to 4)', '[t:3] "t3" (2 to 3)')
+
 EXPLAINED = [
-    explained_locks("two writers", NO[0][1], "no 0 1 db", overlap('[t:3] "t3" (0 to 2)', '[t:4] "t4" (1 to 3)', "db"), 0, 1, 2, 3),
-    explained_locks("global", NO[11][1], "no 1 2 global", overlap('[c:1]/[t:2] "t2" (1 to 4)', '[t:3] "t3" (2 to 3)', "global"), 1, 2, 3, 4),
-    explained_locks("a name with escapes", NO[-1][1], "no 0 1 a\\pb\\\\", overlap('[t:3] "t3" (0 to 2)', '[t:4] "t4" (1 to 3)', "a\\pb\\\\"), *range(4)),
+    explained_locks("two writers", held("3 W db, 4 W db", BESIDE), "no 0 1 db", overlap(*OF_THREE_AND_FOUR, "db"), 0, 1, 2, 3),
+    explained_locks("global", held("3 W global", THREE), "no 1 2 global", overlap(*OF_TWO_AND_THREE, "global"), 1, 2, 3, 4),
+    explained_locks("a name with escapes", held("3 R a\\p, 4 W a\\p", BESIDE), "no 0 1 a\\p", overlap(*OF_THREE_AND_FOUR, "a\\p"), 0, 1, 2, 3),
     explained_locks("one after the other", held("3 W db, 4 W db", AFTER), "yes"),
     explained_locks("readers", held("3 R db, 4 R db", BESIDE), "no pair", "2 executions hold a lock"),
-    explained_locks("a test with two locks that runs twice", held("3 W db, 3 W net, 4 W a", f"{AFTER}, {AFTER}"), "no pair", "4 executions hold a lock"),
+    explained_locks("tests that run twice", held("3 W db, 3 W net, 4 W a", f"{AFTER}, {AFTER}"), "no pair", "4 executions hold a lock"),
     explained_locks("a lock of one alone", held("3 W db", BESIDE), "no pair", "1 executions hold a lock"),
     explained_locks("no lock", TWO_TESTS, "no pair", "0 executions hold a lock"),
     explained_locks("one that never finishes", held("3 W db, 4 R db", "3 start, 4 start, 4 finish|ok"), "no pair", "1 executions hold a lock"),

@@ -208,7 +208,7 @@ ORDERS_OF_LOCKS = [
     ("names that fall", "L|0|W|net", "L|0|W|db"),
     ("a name after one that it begins", "L|0|W|db", "L|0|W|d"),
     ("a small letter before a capital", "L|0|W|a", "L|0|W|Z"),
-    ("the order of the fields", "L|0|W|a", "L|0|W|\\n"),
+    ("the order of the fields, and not of the names", "L|0|W|Z", "L|0|W|\\n"),
     ("a name twice", "L|0|W|db", "L|0|W|db"),
     ("a name twice, in both modes", "L|0|R|db", "L|0|W|db"),
     ("a descriptor after it", "L|0|W|db", "N|T|[engine:f]|f"),
