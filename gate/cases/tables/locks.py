@@ -2,7 +2,7 @@
 
 from typing import List
 
-from tables.building import LOCK_HEADER, Text, answer, faults, no
+from tables.building import LOCK_HEADER, answer, faults, no
 from tables.exclusives import events_of
 from tables.explanation_rows import Row, explained
 from tables.texts import EMPTY, TWO_TESTS
