@@ -21,7 +21,7 @@ import sys
 import threading
 import time
 from dataclasses import dataclass, fields
-from typing import BinaryIO, Callable, Iterator, List, Optional, Sequence, Tuple
+from typing import BinaryIO, Callable, Iterable, Iterator, List, Optional, Sequence, Tuple
 
 import fixtures
 from fixtures import PROGRAM, TOP, WithProgram, folder, parameterized
@@ -156,10 +156,55 @@ def events(*tails: str, keys: Sequence[int] = range(1, 65_001)) -> str:
     return "".join(f"E|1|{key}|0|{tail}\n" for key in keys for tail in tails)
 
 
-def record_of_tests(name: str, *parts: str) -> bytes:
-    """A record of an engine and of 65,000 tests below it, each with this name, and of these events."""
-    nodes = "".join(f"N|T|[engine:e]/[t:{number}]|{name}\n" for number in range(65_000))
+def record_of_tests(name: str, *parts: str, count: int = 65_000) -> bytes:
+    """A record of an engine and of tests below it, each with this name, and of these events."""
+    nodes = "".join(f"N|T|[engine:e]/[t:{number}]|{name}\n" for number in range(count))
     return (RECORD.replace("|T|", "|C|") + nodes + "".join(parts)).encode()
+
+
+def held(locks: Iterable[Tuple[int, str, str]], count: int, name: str, *parts: str) -> bytes:
+    """A record of tests of an engine in which keys hold locks, each with its mode."""
+    lines = "".join(f"L|{key}|{mode}|{lock}\n" for key, mode, lock in locks)
+    return record_of_tests(name, lines, *parts, count=count).replace(b"testkit-record|2", b"testkit-record|3")
+
+
+def apart_from_the_last(count: int) -> Sequence[str]:
+    """The events of tests that all start before the first finishes, and of a last one after them."""
+    return [events(tail, keys=range(1, count)) for tail in ("start", "finish|ok")] + [events("start", "finish|ok", keys=[count])]
+
+
+def one_lock_read() -> bytes:
+    """20,000 tests side by side that read a lock, which one writes after them."""
+    return held(((key, "RW"[key == 20_000], "db") for key in range(1, 20_001)), 20_000, "n" * 700, *apart_from_the_last(20_000))
+
+
+def many_locks() -> bytes:
+    """Tests that write 4,000 locks, sixteen of them each, one after the other."""
+    return held(((key, "W", f"lock {key % 4_000}") for key in range(1, 64_001)), 64_000, "n" * 150, events("start", "finish|ok", keys=range(1, 64_001)))
+
+
+def many_locks_of_each() -> bytes:
+    """A hundred tests side by side that read 4,000 locks each."""
+    keys = range(1, 101)
+    locks = ((key, "R", f"lock {number:04} {'x' * 24}") for key in keys for number in range(4_000))
+    return held(locks, 100, "n", events("start", keys=keys), events("finish|ok", keys=keys))
+
+
+def one_global() -> bytes:
+    """60,000 tests side by side, and after them one that holds `global`."""
+    return held([(60_000, "W", "global")], 60_000, "n" * 200, *apart_from_the_last(60_000))
+
+
+def locks_above() -> bytes:
+    """An engine that holds `global` and another lock above 60,000 tests side by side that read it."""
+    locks = [(0, "W", "db"), (0, "W", "global"), *((key, "R", "db") for key in range(1, 60_001))]
+    return held(locks, 60_000, "n" * 180, BEGIN, *apart_from_the_last(60_000), END)
+
+
+def held_and_never_finished() -> bytes:
+    """Two tests that write a lock one after the other, and starts of the second that never finish."""
+    begin = held([(1, "W", "db"), (2, "W", "db")], 2, "n", events("start", "finish|ok", keys=[1, 2])).decode()
+    return repeated(begin, "E|1|2|7|start\n")()
 
 
 BEGIN, END = events("start", keys=[0]), events("finish|ok", keys=[0])
@@ -233,6 +278,9 @@ EVENTS = repeated(RECORD, "E|1|0|7|start\nE|1|0|8|finish|ok\n")
 FAILING = repeated(RECORD, "E|1|0|7|start\nE|1|0|8|finish|ok\n", "E|1|0|9|finish|fail|boom\n")
 FAILURES = repeated(RECORD, "E|1|0|7|start\nE|1|0|8|finish|ok\n", "E|1|0|9|finish|fail|boom\n" * 1_000)
 STARTS = repeated(RECORD, "E|1|0|7|start\n")
+UNCOUNTED = Costs(3, 0, 0, 0, 0)
+"""The limit of a row that wasn't counted yet: no run keeps it."""
+
 NEVER_FINISHED = repeated(RECORD + 2 * "E|1|0|7|start\nE|1|0|8|finish|ok\n", "E|1|0|7|start\n")
 LONG_REASON = repeated(RECORD + "E|1|0|7|skip|", "x", "\n")
 SHORT_STAMPS = [repeated(RECORD, f"E|1|0|{7 * 10**17}|{tail}\n") for tail in ("start", "finish|fail|boom")]
@@ -269,6 +317,13 @@ ROWS = [
     row("record/exclusive of 65,000 readers side by side", "ask exclusive engine test", tests_side_by_side, Costs(0.8, 49_400, 391_000, 312, 2), "yes\n"),
     row("record/exclusive of starts that never finish", "ask exclusive test", NEVER_FINISHED, Costs(0.8, 61_000, 210, 312, 2), "yes\n"),
     row("record/executions of tests", "ask executions tests", EVENTS, Costs(0.8, 49_400, 210, 312, 153), "0 succeeded 7 8\n"),
+    row("record/locks, none", "ask locks", EVENTS, UNCOUNTED, "no pair\n"),
+    row("record/locks, 20,000 readers of one", "ask locks", one_lock_read, UNCOUNTED, "yes\n"),
+    row("record/locks, 4,000 of sixteen tests each", "ask locks", many_locks, UNCOUNTED, "yes\n"),
+    row("record/locks, 4,000 of each of 100 tests", "ask locks", many_locks_of_each, UNCOUNTED, "no pair\n"),
+    row("record/locks, global beside 60,000 tests", "ask locks", one_global, UNCOUNTED, "yes\n"),
+    row("record/locks, global and another above 60,000 tests", "ask locks", locks_above, UNCOUNTED, "no pair\n"),
+    row("record/locks of starts that never finish", "ask locks", held_and_never_finished, UNCOUNTED, "yes\n"),
     row("record/list of all", "ask list all", EVENTS, Costs(0.8, 25_000, 190, 312, 442), "0 E|1|0|7|start\n1 E|1|0|8|finish|ok\n"),
     row("record/list by 100 conditions", "ask list all" + 99 * " started" + " not(started)", EVENTS, Costs(0.8, 25_000, 570, 312, 0), ""),
     row("record/lifecycle of 65,000 tests", "ask lifecycle", tests_of_an_engine, Costs(1.5, 29_300, 469_000, 285, 2), "yes\n"),
@@ -433,8 +488,24 @@ def seconds_of(command: Sequence[str], path: str) -> float:
 ROUNDS = 7
 """How often each question of a pair is asked."""
 
+LOCKED = [
+    ("none", EVENTS),
+    ("20,000 readers of one", one_lock_read),
+    ("4,000 of sixteen tests each", many_locks),
+    ("4,000 of each of 100 tests", many_locks_of_each),
+    ("global beside 60,000 tests", one_global),
+    ("global and another above 60,000 tests", locks_above),
+    ("starts that never finish", held_and_never_finished),
+]
+"""Records of which `ask locks` is asked."""
+
+UNCOMPARED = [EVENTS, many_locks_of_each, locks_above]
+"""Those of which it answers `no pair`, so that an explanation counts who holds a lock."""
+
 BESIDE = [
     Pair("ask exclusive test", "ask executions", EVENTS, 1.3),
+    *[Pair("ask locks", "ask executions", input, 1.5, f"locks, {name}, beside executions") for name, input in LOCKED],
+    *[Pair("ask explain locks", "ask locks", input, 3, f"explained locks, {name}") for name, input in LOCKED if input in UNCOMPARED],
     Pair("ask explain loosely" + LAST_FAILS, "ask match loosely" + LAST_FAILS, EVENTS, 3),
     Pair("ask explain in-order" + LAST_FAILS, "ask match in-order" + LAST_FAILS, EVENTS, 3),
     Pair("ask explain in-order" + TOO_EARLY, "ask match in-order" + TOO_EARLY, FAILING, 3),
