@@ -9,7 +9,7 @@ use testkit_questions::ConditionsFault;
 use tk_streams::ByteTarget;
 
 /// How many bytes of the text of a fault are kept.
-pub const FAULT_TEXT: usize = 512;
+const FAULT_TEXT: usize = 512;
 
 /// An expectation that a record does not meet, with what shows it.
 #[derive(Drop)]

@@ -11,4 +11,4 @@ mod report_differences;
 mod uncounted_events;
 
 pub use expectations::Expect;
-pub use failures::{FAULT_TEXT, Failure, Unmet};
+pub use failures::{Failure, Unmet};
