@@ -1,5 +1,7 @@
 //! What a test expects of a record.
-ghost use Rattle.std.specs.Prelude.{◌≡◌, ◌∷◌, ℕ, List, [], map, string_bytes, IfErr, IfOk};
+ghost use Rattle.std.specs.Prelude.{◌≡◌, ◌∷◌, ℕ, List, [], length, map, string_bytes, IfErr, IfOk};
+ghost use Rattle.tk_query_conditions.specs.Cond.{Any, Nothing};
+ghost use Rattle.tk_query_conditions.specs.CondOf.{cond_of};
 ghost use Rattle.tk_explanations.specs.Collisions.{ExplainsExclusive};
 ghost use Rattle.tk_explanations.specs.Lifecycles.{ExplainsLifecycle};
 ghost use Rattle.tk_explanations.specs.Matches.{ExplainsExactly, ExplainsInOrder, ExplainsLoosely};
@@ -37,6 +39,38 @@ fn conditions_of(alloc: Global, texts: &[&str]) -> Result<Vec<Condition>, Failur
             Err(Failure::Condition(fault, shown))
         }
     }
+}
+
+// Takes the condition of one text.
+fn only(conditions: Vec<Condition>) -> Condition
+    requires { length conditions.items ≡ 1 }
+    ensures { conditions.items ≡ result ∷ [] }
+{
+    let mut conditions = conditions;
+    match conditions.pop() {
+        Some(condition) => condition,
+        None => unreachable!(),
+    }
+}
+
+// Takes the conditions of two texts.
+fn both(conditions: Vec<Condition>) -> (Condition, Condition)
+    requires { length conditions.items ≡ 2 }
+    ensures { conditions.items ≡ result.0 ∷ result.1 ∷ [] }
+{
+    let mut first = conditions;
+    let last = first.pop();
+    match (first.pop(), last) {
+        (Some(writers), Some(readers)) => (writers, readers),
+        (None, Some(_)) | (_, None) => unreachable!(),
+    }
+}
+
+// The condition of readers where there are none: it holds of no event.
+fn nobody(alloc: Global) -> Condition
+    ensures { cond_of result ≡ Any Nothing }
+{
+    Condition::Any(Vec::new(alloc))
 }
 
 // Splits a text at its blanks.
@@ -159,12 +193,8 @@ impl<'r> Expect<'r> {
             (ExplainsExclusive (all_of self.entry.«record».now))) result }
         ensures refused { IfErr result (RefusesConditions (writers.now ∷ [])) }
     {
-        let mut conditions = conditions_of(self.alloc, &[writers])?;
-        let readers = Condition::Any(Vec::new(self.alloc));
-        let Some(writers) = conditions.pop() else {
-            unreachable!()
-        };
-        self.apart(&writers, &readers)
+        let writers = only(conditions_of(self.alloc, &[writers])?);
+        self.apart(&writers, &nobody(self.alloc))
     }
 
     /// Expects that the executions of writers kept away from each other and from those of readers,
@@ -174,11 +204,7 @@ impl<'r> Expect<'r> {
             (ExplainsExclusive (all_of self.entry.«record».now))) result }
         ensures refused { IfErr result (RefusesConditions (writers.now ∷ readers.now ∷ [])) }
     {
-        let mut conditions = conditions_of(self.alloc, &[writers, readers])?;
-        let last = conditions.pop();
-        let (Some(writers), Some(readers)) = (conditions.pop(), last) else {
-            unreachable!()
-        };
+        let (writers, readers) = both(conditions_of(self.alloc, &[writers, readers])?);
         self.apart(&writers, &readers)
     }
 

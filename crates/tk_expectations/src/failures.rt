@@ -1,5 +1,5 @@
 //! Why a test fails.
-ghost use Rattle.std.specs.Prelude.{◌≡◌};
+ghost use Rattle.std.specs.Prelude.{◌≡◌, string_bytes};
 ghost use Rattle.tk_expectations.specs.Failures.{IsFault};
 
 use std::error::Error;
@@ -36,7 +36,9 @@ impl Unmet {
 
     /// Lends what is shown below it: the events of the descriptors that the explanation names, or
     /// those that might have been counted.
-    pub fn below(&self) -> &str {
+    pub fn below(&self) -> &str
+        ensures { result.now ≡ string_bytes self.now.below }
+    {
         self.below.as_str()
     }
 }

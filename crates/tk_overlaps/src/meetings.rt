@@ -1,4 +1,6 @@
 //! Meetings of two bodies of tests.
+ghost use Rattle.std.specs.Prelude.{◌≤◌};
+ghost use Rattle.tk_waiting.specs.declared.retry_delays.TheConstants.{MAX_SHORT_DELAYS};
 
 use std::sync::Wait;
 use std::sync::atomic::{AtomicU64, Ordering};
@@ -22,7 +24,9 @@ pub struct Meeting {
 
 impl Meeting {
     /// Makes a meeting at which each waits about so long for the other one.
-    pub fn new(longest: Duration) -> Meeting {
+    pub fn new(longest: Duration) -> Meeting
+        ensures { MAX_SHORT_DELAYS ≤ result.tries }
+    {
         let microseconds = u64::try_from(longest.as_micros()).unwrap_or(u64::MAX);
         let long_delays = microseconds / MICROSECONDS_OF_DELAY;
         Meeting {
