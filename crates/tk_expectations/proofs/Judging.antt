@@ -1,17 +1,13 @@
 -- How judging conditions follows from judging an answer.
-use Rattle.std.proofs.Common.{◌≡◌, ◌++◌, ◌∷◌, [], ℕ, suc, Bool, List, Ok, Err, tt, absurd, refl, ap, sym, ◌∙◌, length, append_assoc}
+use Rattle.std.proofs.Common.{◌≡◌, ◌++◌, ◌∷◌, [], ℕ, suc, Bool, List, Ok, Err, refl, ap, length}
 use Rattle.std.specs.Prelude.{Result, IfErr}
-use Rattle.std.specs.List.{flat_map}
-use Rattle.std.proofs.lemmas.List.{flat_map_more}
-use Rattle.tk_record.specs.Statistics.{nothing_expected}
-use Rattle.tk_record.specs.declared.statistics.Expected.{Expected}
 use Rattle.tk_query_conditions.specs.declared.conditions.Condition.{Condition}
 use Rattle.testkit_questions.specs.Characters.{blank}
-use Rattle.testkit_questions.specs.Questions.{AreConditions, AreHolders, Expecting}
+use Rattle.testkit_questions.specs.Questions.{AreConditions, AreHolders}
 use Rattle.tk_expectations.specs.declared.expectations.Expect.{Expect}
 use Rattle.tk_expectations.specs.declared.failures.Failure.{Failure}
 use Rattle.tk_expectations.specs.declared.failures.Failure.TheVariants as failures
-use Rattle.tk_expectations.specs.Expectations.{IsJudged, IsSpaced, OfHolders, RefusesConditions}
+use Rattle.tk_expectations.specs.Expectations.{IsJudged, OfHolders, RefusesConditions}
 use Rattle.tk_expectations.specs.steps.Judged.{IsAsked}
 
 pub as_many : (texts : List (List ℕ)) (cs : List Condition) → AreConditions texts cs
@@ -26,7 +22,7 @@ pub judged_holders : (e : Expect) (texts : List (List ℕ)) (writers readers : C
     (Answers : Condition → Condition → Bool → List ℕ → Type 0) (result : Result Expect Failure)
     → AreHolders texts writers readers → IsJudged e (Answers writers readers) result
     → IsJudged e (OfHolders texts Answers) result
-judged_holders e texts w r Answers (Ok next) a h = (h.0, h.1.0, w, r, a, h.1.1)
+judged_holders e texts w r Answers (Ok next) a h = (h.0, h.1, (w, r, a, h.2))
 judged_holders e texts w r Answers (Err (failures.Unmet u)) a h = (w, r, a, h)
 judged_holders e texts w r Answers (Err (failures.Condition fault shown)) a h = tt
 judged_holders e texts w r Answers (Err (failures.Word at shown)) a h = tt
@@ -44,14 +40,3 @@ asked_refuses texts (Err (failures.Fault text)) h = tt
 -- a word with the blank after it
 abbrev pub ended : List ℕ → List ℕ
 ended word = word ++ blank ∷ []
-
--- one word more is split off a text
-pub words_more : (text rest word after : List ℕ) (words : List (List ℕ))
-    → text ≡ flat_map ended words ++ rest → rest ≡ word ++ (blank ∷ after)
-    → text ≡ flat_map ended (words ++ word ∷ []) ++ after
-words_more text rest word after words h cut =
-    let whole = h ∙ ap (λ (r : List ℕ). flat_map ended words ++ r) cut in
-    let inner = append_assoc word (blank ∷ []) after in
-    let outer = append_assoc (flat_map ended words) (ended word) after in
-    let more = ap (λ (l : List ℕ). l ++ after) (flat_map_more ended [] words word) in
-    whole ∙ sym (ap (λ (l : List ℕ). flat_map ended words ++ l) inner) ∙ sym outer ∙ more

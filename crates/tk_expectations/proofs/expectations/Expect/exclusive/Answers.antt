@@ -1,4 +1,4 @@
-use Rattle.std.proofs.Common.{◌∷◌, [], inr, subst, sym, List}
+use Rattle.std.proofs.Common.{◌∷◌, [], inr, subst, List}
 use Rattle.tk_query_conditions.specs.declared.conditions.Condition.{Condition}
 use Rattle.tk_record.specs.Selections.{all_of}
 use Rattle.tk_explanations.specs.Collisions.{ExplainsExclusive}
@@ -7,13 +7,13 @@ use Rattle.tk_expectations.proofs.Judging.{as_many, asked_refuses, judged_holder
 use Rattle.tk_expectations.proofs.expectations.Expect.exclusive.Goals as goal
 
 pub only-writers-requires : goal.only-writers-requires
-only-writers-requires c = as_many (c.args.writers.now ∷ []) _ c.in_ok-only.ensures.ok
+only-writers-requires c = as_many (c.args.writers.now ∷ []) _ c.in_ok-conditions_of.ensures.ok
 
 pub returns-clause-judged : goal.returns-clause-judged
 returns-clause-judged c =
     let texts = c.args.writers.now ∷ [] in
     let one = subst (λ (cs : List Condition). AreConditions texts cs) c.only-writers.ensures
-    c.in_ok-only.ensures.ok in
+    c.in_ok-conditions_of.ensures.ok in
     judged_holders c.args.self texts c.only-writers.result c.nobody.result
     (ExplainsExclusive (all_of c.args.self.«record».now)) c.apart.result
     (inr (one, c.nobody.ensures)) c.apart.ensures.judged
