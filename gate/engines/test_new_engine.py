@@ -103,9 +103,8 @@ class NewEngine(unittest.TestCase):
             for name, old in row.names.items():
                 page = page.replace(name, old)
             self.assertEqual(page, before[f"{example}/{row.page}"])
-        self.assertEqual(made.pop("crates/test_front_desk/src/assertions.rt"), before[f"{TESTS}/assertions.rt"])
         self.assertTrue(made.pop("crates/front_desk/src/lib.rt").endswith(f"#![tactic(auto)]\n\nmod engine;\n\npub use engine::{row.given};\n"))
-        self.assertIn("#![tactic(auto)]\n\n#[cfg(test)]\nmod assertions;\n#[cfg(test)]\nmod engine;\n", made.pop("crates/test_front_desk/src/lib.rt"))
+        self.assertIn("#![tactic(auto)]\n\n#[cfg(test)]\nmod engine;\n", made.pop("crates/test_front_desk/src/lib.rt"))
         self.assertEqual(made, {})
 
     @parameterized(REFUSES, name=attrgetter("name"))

@@ -1,6 +1,10 @@
 -- What clauses cite of questions, answers and explanations.
 pub use Rattle.testkit_questions.specs.Conditions.{IsConditionsFault}
-pub use Rattle.testkit_questions.specs.Questions.{AreConditions, IsNamed, mode_name}
+pub use Rattle.testkit_questions.specs.Questions.{AreConditions}
+pub use Rattle.tk_expectations.specs.Expectations.{ComparesReport, IsJudged, OfConditions}
+pub use Rattle.tk_expectations.specs.Expectations.{OfHolders, OfWords, RefusesConditions}
+pub use Rattle.tk_expectations.specs.Expectations.{RefusesWords, asked_of, texts_of}
+pub use Rattle.tk_expectations.specs.Failures.{IsFault}
 pub use Rattle.tk_explanations.specs.Collisions.{ExplainsExclusive}
 pub use Rattle.tk_explanations.specs.Explained.{IsExplained}
 pub use Rattle.tk_explanations.specs.Lifecycles.{ExplainsLifecycle}

@@ -10,4 +10,5 @@ pub use tk_engine_execute::{
 pub use tk_engine_hierarchical::{Body, Hierarchical, Reporter, Tests, run_tests};
 pub use tk_engine_unit_events::{Outcome, UnitRun};
 pub use tk_locks::{BookSeat, Need};
+pub use tk_overlaps::Meeting;
 pub use tk_queue_session::{RegisterFault, SendFault};

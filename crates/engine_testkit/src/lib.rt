@@ -22,8 +22,8 @@ pub use engine::{
 };
 pub use plans::{ExecutionMode, LockMode, Plan, PlanFault, PlanNode, build_plan};
 pub use questions::{
-    Condition, Ending, Exact, Exclusive, Execution, Executions, InOrder, Lifecycle, LifecycleRule,
-    Loose, exclusive, executions, match_exactly, match_in_order, match_loosely,
+    Condition, Ending, Exact, Exclusive, Execution, Executions, Expect, Failure, InOrder, Lifecycle,
+    LifecycleRule, Loose, exclusive, executions, match_exactly, match_in_order, match_loosely,
 };
 pub use record::{
     DType, Descriptor, Event, Events, Expected, Kind, Mismatch, Pairs, Payload, Segment, Selection,

@@ -1,6 +1,7 @@
 //! Questions about a record: conditions, matchers, executions, which of them overlap, lifecycle, and
 //! explanations of their answers.
-pub use testkit_questions::{ConditionsFault, Mode, read_conditions};
+pub use testkit_questions::{ConditionsFault, read_conditions};
+pub use tk_expectations::{Expect, Failure, Unmet};
 pub use tk_explanations::{
     ExplainFault, explain_exactly, explain_exclusive, explain_in_order, explain_lifecycle,
     explain_loosely, explain_statistics,

@@ -39,7 +39,11 @@ pub(crate) fn write_answer<T: Target>(
     }
 }
 
-fn explain_match<T: Target>(
+/// Writes what a mode's matcher answers of the events, and below it why.
+///
+/// # Errors
+/// `Memory` where a request for memory is refused, and `Device` where the target broke.
+pub fn explain_match<T: Target>(
     alloc: Global,
     events: &Events<'_>,
     mode: Mode,

@@ -1,17 +1,13 @@
 //! The engine of two tests by hand: what a run records, and whether that keeps the lifecycle.
-use crate::assertions::assert_matches;
-use engine_testkit::execute;
-use engine_testkit::questions::{Lifecycle, Mode};
+use engine_testkit::{Expect, Failure, execute};
 use example_engine::by_hand::NumberEngine;
-use std::test::Fail;
+use std::alloc::AllocError;
 
 #[test]
-fn each_number_is_tested(rt: HostRuntime) -> Result<(), Fail> {
+fn each_number_is_tested(rt: HostRuntime) -> Result<(), Failure> {
     let alloc = rt.alloc();
-    let engine = NumberEngine::new(alloc).ok_or("out of memory")?;
+    let engine = NumberEngine::new(alloc).ok_or(AllocError)?;
     let results = execute(&rt, alloc, &engine, 1, 16)?;
-    assert!(rt; results.lifecycle(alloc)? == Lifecycle::Kept);
-    let events = results.all_events(alloc)?;
     let expected = [
         "all(engine,started)",
         "all(started,id([engine:numbers]/[number:4]),name(four))",
@@ -20,5 +16,8 @@ fn each_number_is_tested(rt: HostRuntime) -> Result<(), Fail> {
         "all(failed,name(five))",
         "all(engine,succeeded)",
     ];
-    assert_matches(&rt, alloc, Mode::Exactly, &events, &expected)
+    Expect::of(alloc, results.recorded())
+        .lifecycle()?
+        .exactly(&expected)?;
+    Ok(())
 }
