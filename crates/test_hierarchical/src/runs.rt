@@ -5,9 +5,9 @@ use std::alloc::Global;
 use std::sync::Wait;
 use std::sync::atomic::{AtomicU64, Ordering};
 use std::thread::Threads;
-use tk_engine_execute::{RunFault, Sink, UnitFault};
-use tk_engine_hierarchical::{Reporter, Tests, run_tests};
-use tk_engine_unit_events::{Outcome, UnitRun};
+use tk_engine_execute::{RunFault, UnitFault};
+use tk_engine_hierarchical::{Context, Reporter, Tests, run_tests};
+use tk_engine_unit_events::Outcome;
 use tk_plan_code::PlanNode;
 
 // Whether a run by one worker has the record of the sample.
@@ -46,13 +46,7 @@ struct Counted<'c> {
 }
 
 impl Tests for Counted<'_> {
-    fn run<R: Wait, S: Sink, K: UnitRun>(
-        &self,
-        _rt: &R,
-        _alloc: Global,
-        _key: u32,
-        _reporter: &mut Reporter<'_, S, K>,
-    ) -> Result<Outcome, UnitFault> {
+    fn run<C: Context>(&self, _key: u32, _test: &mut Reporter<C>) -> Result<Outcome, UnitFault> {
         self.runs.fetch_add(1, Ordering::SeqCst);
         if self.fails {
             Err(UnitFault::Own(7))

@@ -1,6 +1,6 @@
 -- What a reporter's calls promise.
 use Rattle.std.proofs.Common.{◌≡◌, ◌≤◌, inr, ℕ, sym, ap, ◌∙◌, subst}
-use Rattle.std.specs.Prelude.{Result, Ok, Err, IfErr, OnErr, OnOk, Option}
+use Rattle.std.specs.Prelude.{Result, OnOk, Option}
 use Rattle.tk_events.specs.declared.kinds.Kind.TheVariants.{Finished, Skipped, Started}
 use Rattle.tk_events.specs.declared.payloads.Payload.{Payload}
 use Rattle.tk_events.specs.declared.payloads.Payload.TheVariants.{Nothing}
@@ -55,13 +55,6 @@ has_begun_child old started new ask key given stamp same s x =
           (event Started key (ask n).stamp Nothing)) same s;
       later = x;
     }
-
--- where a result is an error, what holds of it and what holds of each error hold together
-pub both_err : {R F A : Type 0} (P Q : F → Type 0) (r : Result R F) → OnErr r A → IfErr r P
-    → ((why : F) → A → P why → Q why)
-    → IfErr r Q
-both_err P Q (Ok _) a p f = tt
-both_err P Q (Err why) a p f = f why a p
 
 -- a child began
 pub begun : (old started new : UnitView) (c : ChildView) (above key given : ℕ)

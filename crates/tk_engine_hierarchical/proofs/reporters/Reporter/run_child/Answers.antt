@@ -5,10 +5,10 @@ use Rattle.tk_engine_execute.specs.Engines.{Extends}
 use Rattle.tk_engine_unit_events.specs.Endings.{payload_of}
 use Rattle.tk_engine_unit_events.specs.Refusals.{IsChildCause}
 use Rattle.tk_engine_unit_events.specs.UnitSteps.{UnitView, child_request}
-use Rattle.tk_engine_unit_events.proofs.UnitSteps.{if_err, on_ok}
+use Rattle.tk_engine_unit_events.proofs.UnitSteps.{both_err, if_err, on_ok}
 use Rattle.tk_engine_hierarchical.specs.Causes.{first_cause}
 use Rattle.tk_engine_hierarchical.specs.Reporting.{dynamic_start}
-use Rattle.tk_engine_hierarchical.proofs.Reported.{begun, both_err, ends_child, failed_begun}
+use Rattle.tk_engine_hierarchical.proofs.Reported.{begun, ends_child, failed_begun}
 use Rattle.tk_engine_hierarchical.proofs.Reported.{finish_noted, has_run_child}
 use Rattle.tk_engine_hierarchical.proofs.reporters.Reporter.run_child.Goals as goal
 
