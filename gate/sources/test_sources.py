@@ -11,7 +11,7 @@ LIMITS = Limits(
     handles="Handles allowed: Threads, Wait.\n",
     # (an author needs no clause to make an engine of tests)
     without_clause=[
-        *("crates/example_engine/src/by_hand/broken.rt new", "crates/example_engine/src/by_hand/numbers.rt new"),
+        *("crates/example_engine/src/by_hand/broken.rt new", "crates/example_engine/src/by_hand/numbers.rt number_engine"),
         *("crates/example_engine/src/case_tests.rt case_engine", "crates/example_engine/src/evens.rt even_numbers"),
     ],
     fewest_edits=113,

@@ -1,6 +1,7 @@
 -- What a unit emits of which nothing is to be proved.
-use Rattle.std.specs.Prelude.{◌≡◌, ℕ, List, [], Ok, get_or}
+use Rattle.std.specs.Prelude.{◌≡◌, ℕ, List, Ok, get_or}
 use Rattle.std.specs.Borrow.{Bor}
+use Rattle.tk_ids.specs.IdText.{SegmentView}
 use Rattle.tk_ids.specs.declared.descriptors.DType.{DType}
 use Rattle.tk_events.specs.declared.events.Event.{Event}
 use Rattle.tk_locks.specs.NeedView.{NeedView}
@@ -16,12 +17,15 @@ pub record EmitterView : Type 0 where
 abbrev pub after_event : EmitterView → Event → EmitterView
 after_event e event = record e { sink = sends e.sink event }
 
--- what is asked for, to register a descriptor with a segment of this tag and this value
-abbrev pub request :
-    ℕ → Bor (List ℕ) × Bor (List ℕ) → List ℕ → DType → ℕ → RegisterRequest
+-- the segment of this tag and this value
+abbrev pub segment_view : Bor (List ℕ) × Bor (List ℕ) → SegmentView
+segment_view segment = record { tag = segment.0.now; value = segment.1.now }
+
+-- what is asked for, to register a descriptor
+abbrev pub request : ℕ → SegmentView → List ℕ → DType → ℕ → RegisterRequest
 request parent segment name dtype stamp = record {
   parent = parent;
-  segment = record { tag = segment.0.now; value = segment.1.now };
+  segment = segment;
   name = name;
   dtype = dtype;
   stamp = stamp;
@@ -35,20 +39,3 @@ HasRegistered old new ask key =
 -- what a unit needs; nothing, where there is no such unit
 abbrev pub need_at : List NeedView → ℕ → NeedView
 need_at needs unit = get_or needs unit (record { reads = 0; writes = 0 })
-
--- a sink without a session, for the default of a ghost member
-abbrev pub no_sink : SenderView
-no_sink = record {
-  session = record {
-    words = 0;
-    slots = 0;
-    views_name = 0;
-    atom = 0;
-    block = 0;
-    offset = 0;
-    slot_names = [];
-  };
-  table = [];
-  worker = 0;
-  sent = [];
-}

@@ -2,7 +2,7 @@
 #![tactic(auto, using(crate::proofs::LentSinks::same_at_start, crate::proofs::LentSinks::extends_at_start, crate::proofs::LentSinks::same_after, crate::proofs::LentSinks::extends_after, crate::proofs::LentSinks::same_registered, crate::proofs::LentSinks::extends_registered))]
 
 ghost use Rattle.std.specs.Prelude.{◌≡◌, ◌∷◌, [], Some, None, IfOk, OnOk, OnErr};
-ghost use Rattle.tk_engine_events.specs.Emitters.{HasRegistered, after_event, request};
+ghost use Rattle.tk_engine_events.specs.Emitters.{HasRegistered, after_event, request, segment_view};
 ghost use Rattle.tk_engine_events.specs.Events.{file_published, finished, reported, skipped, started};
 ghost use Rattle.tk_engine_execute.specs.Engines.{Extends, IsSameSender};
 ghost use Rattle.tk_events.specs.declared.statuses.Status.TheVariants.{Aborted, Failed, Successful};
@@ -26,9 +26,22 @@ pub trait SinkRun {
 }
 
 impl SinkRun for Brand {
-    ghost use Rattle.tk_engine_events.specs.Emitters.{no_sink};
+    ghost use Rattle.std.specs.Prelude.{[]};
 
-    ghost start = { no_sink };
+    ghost start = { record {
+      session = record {
+        words = 0;
+        slots = 0;
+        views_name = 0;
+        atom = 0;
+        block = 0;
+        offset = 0;
+        slot_names = [];
+      };
+      table = [];
+      worker = 0;
+      sent = [];
+    } };
 
     ghost name = { 0 };
 }
@@ -62,6 +75,87 @@ pub(crate) struct LentSink<'a, S: Sink> {
     pub(crate) sink: &'a mut S,
 }
 
+// What a unit has emitted, and the stamp of its events.
+#[derive(Drop)]
+struct Emissions<'a, S: Sink, K: SinkRun> {
+    lent: LentSink<'a, S>,
+    stamp: u64,
+    of: PhantomData<K>,
+}
+
+impl<'a, S: Sink, K: SinkRun> Model for Emissions<'a, S, K> {
+    ghost use Rattle.std.specs.Prelude.{◌≡◌};
+    ghost use Rattle.tk_engine_events.specs.Emitters.{EmitterView};
+    ghost use Rattle.tk_engine_execute.specs.Engines.{Extends, IsSameSender};
+
+    ghost Value = { EmitterView };
+
+    ghost view = { λ e. record { sink = S.view e.lent.sink.now; stamp = e.stamp } };
+
+    ghost invariant = { λ e. (e.lent.sink.ghost_name ≡ K.name)
+        × IsSameSender K.start (S.view e.lent.sink.now)
+        × Extends K.start (S.view e.lent.sink.now) };
+}
+
+impl<'a, S: Sink, K: SinkRun> Emissions<'a, S, K> {
+    fn new(lent: LentSink<'a, S>) -> Emissions<'a, S, K>
+        requires name { lent.sink.ghost_name ≡ K.name }
+        requires start { S.view lent.sink.now ≡ K.start }
+    {
+        Emissions {
+            lent,
+            stamp: 0,
+            of: PhantomData,
+        }
+    }
+
+    fn end(self) -> LentSink<'a, S>
+        ensures name { result.sink.ghost_name ≡ K.name }
+        ensures same { IsSameSender K.start (S.view result.sink.now) }
+        ensures some { Extends K.start (S.view result.sink.now) }
+    {
+        let Emissions { lent, .. } = self;
+        lent
+    }
+
+    fn set_stamp(&mut self, stamp: u64)
+        ensures { self.new ≡ record self.old { stamp = stamp } }
+    {
+        self.stamp = stamp;
+    }
+
+    fn stamp(&self) -> u64
+        ensures { result ≡ self.now.stamp }
+    {
+        self.stamp
+    }
+
+    fn emit<R: Wait>(&mut self, rt: &R, event: Event) -> Result<(), UnitFault>
+        ensures ok { OnOk result (self.new ≡ after_event self.old event) }
+        ensures err { OnErr result (self.new ≡ self.old) }
+    {
+        self.lent.sink.emit(rt, event).map_err(UnitFault::Sink)
+    }
+
+    fn register<R: Wait>(
+        &mut self,
+        rt: &R,
+        parent: u32,
+        segment: &Segment,
+        name: &str,
+        dtype: DType,
+    ) -> Result<u32, UnitFault>
+        ensures ok { IfOk result (λ key. HasRegistered self.old self.new
+            (request parent segment.now name.now dtype self.old.stamp) key) }
+        ensures err { OnErr result (self.new ≡ self.old) }
+    {
+        self.lent
+            .sink
+            .register(rt, parent, segment, name, dtype, self.stamp)
+            .map_err(UnitFault::Sink)
+    }
+}
+
 /// The unit that runs: what it emits, each event at once.
 ///
 /// A static descriptor's key is its number in the table; that of a dynamic one is what `register`
@@ -70,22 +164,7 @@ pub(crate) struct LentSink<'a, S: Sink> {
 pub struct Emitter<'r, 'a, C: UnitContext> {
     rt: &'r C::Runtime,
     alloc: Global,
-    lent: LentSink<'a, C::Sink>,
-    stamp: u64,
-}
-
-impl<'r, 'a, C: UnitContext> Model for Emitter<'r, 'a, C> {
-    ghost use Rattle.std.specs.Prelude.{◌≡◌};
-    ghost use Rattle.tk_engine_events.specs.Emitters.{EmitterView};
-    ghost use Rattle.tk_engine_execute.specs.Engines.{Extends, IsSameSender};
-
-    ghost Value = { EmitterView };
-
-    ghost view = { λ e. record { sink = C.Sink.view e.lent.sink.now; stamp = e.stamp } };
-
-    ghost invariant = { λ e. (e.lent.sink.ghost_name ≡ C.Run.name)
-        × IsSameSender C.Run.start (C.Sink.view e.lent.sink.now)
-        × Extends C.Run.start (C.Sink.view e.lent.sink.now) };
+    events: Emissions<'a, C::Sink, C::Run>,
 }
 
 impl<'r, 'a, C: UnitContext> Emitter<'r, 'a, C> {
@@ -98,12 +177,8 @@ impl<'r, 'a, C: UnitContext> Emitter<'r, 'a, C> {
         requires name { lent.sink.ghost_name ≡ C.Run.name }
         requires start { C.Sink.view lent.sink.now ≡ C.Run.start }
     {
-        Emitter {
-            rt,
-            alloc,
-            lent,
-            stamp: 0,
-        }
+        let events = Emissions::new(lent);
+        Emitter { rt, alloc, events }
     }
 
     /// Gives the sink back.
@@ -112,33 +187,37 @@ impl<'r, 'a, C: UnitContext> Emitter<'r, 'a, C> {
         ensures same { IsSameSender C.Run.start (C.Sink.view result.sink.now) }
         ensures some { Extends C.Run.start (C.Sink.view result.sink.now) }
     {
-        let Emitter { lent, .. } = self;
-        lent
+        let Emitter { events, .. } = self;
+        events.end()
     }
 
     // Emits an event.
     fn emit(&mut self, event: Event) -> Result<(), UnitFault>
-        ensures ok { OnOk result (self.new ≡ after_event self.old event) }
-        ensures err { OnErr result (self.new ≡ self.old) }
+        ensures ok { OnOk result (self.new.events ≡ after_event self.old.events event) }
+        ensures err { OnErr result (self.new.events ≡ self.old.events) }
     {
-        Ok(self.lent.sink.emit(self.rt, event)?)
+        self.events.emit(self.rt, event)
     }
 
     /// The runtime, for what waits.
-    pub fn rt(&self) -> &'r C::Runtime {
+    pub fn rt(&self) -> &'r C::Runtime
+        ensures { result ≡ self.now.rt }
+    {
         self.rt
     }
 
     /// The allocator.
-    pub fn alloc(&self) -> Global {
+    pub fn alloc(&self) -> Global
+        ensures { result ≡ self.now.alloc }
+    {
         self.alloc
     }
 
     /// Sets the stamp of the events from now on, which is 0 before.
     pub fn set_stamp(&mut self, stamp: u64)
-        ensures { self.new ≡ record self.old { stamp = stamp } }
+        ensures { self.new.events ≡ record self.old.events { stamp = stamp } }
     {
-        self.stamp = stamp;
+        self.events.set_stamp(stamp);
     }
 
     /// Emits that a descriptor started. JUnit: `executionStarted`.
@@ -146,10 +225,12 @@ impl<'r, 'a, C: UnitContext> Emitter<'r, 'a, C> {
     /// # Errors
     /// `Sink` where the sink refuses the event, as [`Sink::emit`] says. Nothing is emitted then.
     pub fn start(&mut self, key: u32) -> Result<(), UnitFault>
-        ensures ok { OnOk result (self.new ≡ after_event self.old (started key self.old.stamp)) }
-        ensures err { OnErr result (self.new ≡ self.old) }
+        ensures ok { OnOk result (self.new.events
+            ≡ after_event self.old.events (started key self.old.events.stamp)) }
+        ensures err { OnErr result (self.new.events ≡ self.old.events) }
     {
-        self.emit(started(key, self.stamp))
+        let stamp = self.events.stamp();
+        self.emit(started(key, stamp))
     }
 
     /// Emits that a descriptor finished with a success. JUnit: `executionFinished`.
@@ -157,11 +238,12 @@ impl<'r, 'a, C: UnitContext> Emitter<'r, 'a, C> {
     /// # Errors
     /// As [`Emitter::start`].
     pub fn succeed(&mut self, key: u32) -> Result<(), UnitFault>
-        ensures ok { OnOk result (self.new
-            ≡ after_event self.old (finished key self.old.stamp Successful None)) }
-        ensures err { OnErr result (self.new ≡ self.old) }
+        ensures ok { OnOk result (self.new.events
+            ≡ after_event self.old.events (finished key self.old.events.stamp Successful None)) }
+        ensures err { OnErr result (self.new.events ≡ self.old.events) }
     {
-        self.emit(finished(key, self.stamp, Status::Successful, None))
+        let stamp = self.events.stamp();
+        self.emit(finished(key, stamp, Status::Successful, None))
     }
 
     /// Emits that a descriptor failed, with this message.
@@ -169,12 +251,14 @@ impl<'r, 'a, C: UnitContext> Emitter<'r, 'a, C> {
     /// # Errors
     /// `Memory`, or as [`Emitter::start`].
     pub fn fail(&mut self, key: u32, message: &str) -> Result<(), UnitFault>
-        ensures ok { OnOk result (self.new
-            ≡ after_event self.old (finished key self.old.stamp Failed (Some message.now))) }
-        ensures err { OnErr result (self.new ≡ self.old) }
+        ensures ok { OnOk result (self.new.events
+            ≡ after_event self.old.events
+            (finished key self.old.events.stamp Failed (Some message.now))) }
+        ensures err { OnErr result (self.new.events ≡ self.old.events) }
     {
         let message = Text::copy(self.alloc, message)?;
-        self.emit(finished(key, self.stamp, Status::Failed, Some(message)))
+        let stamp = self.events.stamp();
+        self.emit(finished(key, stamp, Status::Failed, Some(message)))
     }
 
     /// Emits that a descriptor was aborted, with this message.
@@ -182,12 +266,14 @@ impl<'r, 'a, C: UnitContext> Emitter<'r, 'a, C> {
     /// # Errors
     /// `Memory`, or as [`Emitter::start`].
     pub fn abort(&mut self, key: u32, message: &str) -> Result<(), UnitFault>
-        ensures ok { OnOk result (self.new
-            ≡ after_event self.old (finished key self.old.stamp Aborted (Some message.now))) }
-        ensures err { OnErr result (self.new ≡ self.old) }
+        ensures ok { OnOk result (self.new.events
+            ≡ after_event self.old.events
+            (finished key self.old.events.stamp Aborted (Some message.now))) }
+        ensures err { OnErr result (self.new.events ≡ self.old.events) }
     {
         let message = Text::copy(self.alloc, message)?;
-        self.emit(finished(key, self.stamp, Status::Aborted, Some(message)))
+        let stamp = self.events.stamp();
+        self.emit(finished(key, stamp, Status::Aborted, Some(message)))
     }
 
     /// Emits that a descriptor is skipped, and why. JUnit: `executionSkipped`.
@@ -195,12 +281,13 @@ impl<'r, 'a, C: UnitContext> Emitter<'r, 'a, C> {
     /// # Errors
     /// `Memory`, or as [`Emitter::start`].
     pub fn skip(&mut self, key: u32, reason: &str) -> Result<(), UnitFault>
-        ensures ok { OnOk result (self.new
-            ≡ after_event self.old (skipped key self.old.stamp reason.now)) }
-        ensures err { OnErr result (self.new ≡ self.old) }
+        ensures ok { OnOk result (self.new.events
+            ≡ after_event self.old.events (skipped key self.old.events.stamp reason.now)) }
+        ensures err { OnErr result (self.new.events ≡ self.old.events) }
     {
         let reason = Text::copy(self.alloc, reason)?;
-        self.emit(skipped(key, self.stamp, reason))
+        let stamp = self.events.stamp();
+        self.emit(skipped(key, stamp, reason))
     }
 
     /// Emits an entry of one name and its value. JUnit: `reportingEntryPublished`.
@@ -208,14 +295,16 @@ impl<'r, 'a, C: UnitContext> Emitter<'r, 'a, C> {
     /// # Errors
     /// `Memory`, or as [`Emitter::start`].
     pub fn report(&mut self, key: u32, name: &str, value: &str) -> Result<(), UnitFault>
-        ensures ok { OnOk result (self.new
-            ≡ after_event self.old (reported key self.old.stamp ((name.now, value.now) ∷ []))) }
-        ensures err { OnErr result (self.new ≡ self.old) }
+        ensures ok { OnOk result (self.new.events
+            ≡ after_event self.old.events
+            (reported key self.old.events.stamp ((name.now, value.now) ∷ []))) }
+        ensures err { OnErr result (self.new.events ≡ self.old.events) }
     {
         let name = Text::copy(self.alloc, name)?;
         let value = Text::copy(self.alloc, value)?;
         let pairs = Pairs::shared_pair(self.alloc, name, value)?;
-        self.emit(reported(key, self.stamp, pairs))
+        let stamp = self.events.stamp();
+        self.emit(reported(key, stamp, pairs))
     }
 
     /// Emits that the file at this path was published. JUnit: `fileEntryPublished`.
@@ -223,12 +312,13 @@ impl<'r, 'a, C: UnitContext> Emitter<'r, 'a, C> {
     /// # Errors
     /// `Memory`, or as [`Emitter::start`].
     pub fn file(&mut self, key: u32, path: &str) -> Result<(), UnitFault>
-        ensures ok { OnOk result (self.new
-            ≡ after_event self.old (file_published key self.old.stamp path.now)) }
-        ensures err { OnErr result (self.new ≡ self.old) }
+        ensures ok { OnOk result (self.new.events
+            ≡ after_event self.old.events (file_published key self.old.events.stamp path.now)) }
+        ensures err { OnErr result (self.new.events ≡ self.old.events) }
     {
         let path = Text::copy(self.alloc, path)?;
-        self.emit(file_published(key, self.stamp, path))
+        let stamp = self.events.stamp();
+        self.emit(file_published(key, stamp, path))
     }
 
     /// Registers a descriptor below its parent, and returns its key. JUnit:
@@ -247,12 +337,12 @@ impl<'r, 'a, C: UnitContext> Emitter<'r, 'a, C> {
         name: &str,
         dtype: DType,
     ) -> Result<u32, UnitFault>
-        ensures ok { IfOk result (λ key. HasRegistered self.old self.new
-            (request parent segment.entry name.now dtype self.old.stamp) key) }
-        ensures err { OnErr result (self.new ≡ self.old) }
+        ensures ok { IfOk result (λ key. HasRegistered self.old.events self.new.events
+            (request parent (segment_view segment.entry) name.now dtype self.old.events.stamp)
+            key) }
+        ensures err { OnErr result (self.new.events ≡ self.old.events) }
     {
         let segment = Segment::new(self.alloc, segment.0, segment.1)?;
-        let sink = &mut self.lent.sink;
-        Ok(sink.register(self.rt, parent, &segment, name, dtype, self.stamp)?)
+        self.events.register(self.rt, parent, &segment, name, dtype)
     }
 }

@@ -1,6 +1,9 @@
 //! An engine by hand of which nothing is to be proved.
-ghost use Rattle.std.specs.Prelude.{◌≡◌, ◌<◌, ◌≤◌, length, IfOk, OnOk, OnErr};
+ghost use Rattle.std.specs.Prelude.{◌≡◌, ◌<◌, ◌≤◌, ◌++◌, ◌∷◌, [], None, Some, Ok, length, IfOk, OnOk, OnErr};
 ghost use Rattle.std.specs.Arc.{arc_value};
+ghost use Rattle.tk_ids.specs.Table.{IsAddedAs, addition};
+ghost use Rattle.tk_ids.specs.declared.descriptors.DType.TheVariants.{Container};
+ghost use Rattle.tk_engine_events.specs.Emitters.{segment_view};
 ghost use Rattle.tk_engine_execute.specs.Engines.{Extends, IsSameSender};
 
 use crate::emitters::{Emitter, InSink, LentSink, SinkRun, UnitContext};
@@ -44,10 +47,14 @@ fn add(
     name: &str,
     dtype: DType,
 ) -> Result<u32, TableFault>
-    ensures ok { OnOk result (0 < length table.new) }
-    ensures more { length table.old ≤ length table.new }
+    ensures ok { IfOk result (λ key. IsAddedAs table.old table.new
+        (addition parent.entry (segment_view segment.entry) name.now dtype) (Ok key)) }
+    ensures err { OnErr result (table.new ≡ table.old) }
 {
-    let segment = Segment::new(alloc, segment.0, segment.1).map_err(TableFault::Id)?;
+    let segment = match Segment::new(alloc, segment.0, segment.1) {
+        Ok(segment) => segment,
+        Err(fault) => return Err(TableFault::Id(fault)),
+    };
     table.add(alloc, parent, &segment, name, dtype)
 }
 
@@ -56,7 +63,11 @@ impl UnitTable {
     ///
     /// # Errors
     /// As [`Table::add`], or `Id` where the tag or the value is empty.
-    pub fn new(alloc: Global, root: (&str, &str), name: &str) -> Result<UnitTable, TableFault> {
+    pub fn new(alloc: Global, root: (&str, &str), name: &str) -> Result<UnitTable, TableFault>
+        ensures root { IfOk result (λ t. IsAddedAs [] t.table
+            (addition None (segment_view root.entry) name.now Container) (Ok 0)) }
+        ensures needs { IfOk result (λ t. t.needs.items ≡ []) }
+    {
         let mut table = Table::new(alloc);
         let _root = add(alloc, &mut table, None, root, name, DType::Container)?;
         let needs = Vec::new(alloc);
@@ -74,7 +85,12 @@ impl UnitTable {
         segment: (&str, &str),
         name: &str,
         dtype: DType,
-    ) -> Result<u32, TableFault> {
+    ) -> Result<u32, TableFault>
+        ensures ok { IfOk result (λ key. IsAddedAs self.old.table self.new.table
+            (addition (Some parent) (segment_view segment.entry) name.now dtype) (Ok key)) }
+        ensures err { OnErr result (self.new.table ≡ self.old.table) }
+        ensures needs { self.new.needs.items ≡ self.old.needs.items }
+    {
         add(alloc, &mut self.table, Some(parent), segment, name, dtype)
     }
 
@@ -82,7 +98,11 @@ impl UnitTable {
     ///
     /// # Errors
     /// `Full` where there are `MAX_UNITS` units, or `Memory`.
-    pub fn add_unit(&mut self, need: Need) -> Result<(), TableFault> {
+    pub fn add_unit(&mut self, need: Need) -> Result<(), TableFault>
+        ensures ok { OnOk result (self.new.needs.items ≡ self.old.needs.items ++ need ∷ []) }
+        ensures err { OnErr result (self.new.needs.items ≡ self.old.needs.items) }
+        ensures table { self.new.table ≡ self.old.table }
+    {
         if self.needs.len() >= MAX_UNITS as usize {
             return Err(TableFault::Full);
         }

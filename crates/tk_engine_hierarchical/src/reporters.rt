@@ -5,6 +5,7 @@ ghost use Rattle.tk_ids.specs.declared.descriptors.DType.TheVariants.{Container,
 ghost use Rattle.tk_events.specs.declared.kinds.Kind.TheVariants as kinds;
 ghost use Rattle.tk_engine_execute.specs.Engines.{Extends, IsSameSender};
 ghost use Rattle.tk_engine_execute.specs.declared.engines.UnitFault.{UnitFault};
+ghost use Rattle.tk_engine_execute.specs.declared.engines.UnitFault.TheVariants.{Own};
 ghost use Rattle.tk_engine_unit_events.specs.Endings.{payload_of};
 ghost use Rattle.tk_engine_hierarchical.specs.Causes.{first_cause};
 ghost use Rattle.tk_engine_hierarchical.specs.Reporting.{EndsChild, HasBegunDynamic, HasFailedDynamic, HasRunDynamic, IsDynamicCause, IsSegmentCause, IsTextCause, dynamic_start, entry_at, file_at, named_child, segment_view, skip_at};
@@ -17,7 +18,7 @@ use crate::contexts::{Context, InUnit};
 use crate::tests::{Body, payload_of};
 use std::alloc::Global;
 use std::sync::Wait;
-use tk_engine_execute::{Sink, UnitFault};
+use tk_engine_execute::{OUT_OF_ORDER, Sink, UnitFault};
 use tk_engine_unit_events::{Child, Outcome, UnitBody, UnitEvents, UnitRun};
 use tk_events::{Kind, Pairs, Payload};
 use tk_ids::{DType, Descriptor, Segment, Text};
@@ -223,12 +224,16 @@ impl<'r, 'a, C: Context> Reporter<'r, 'a, C> {
     }
 
     /// The runtime, for what waits.
-    pub fn rt(&self) -> &'r C::Runtime {
+    pub fn rt(&self) -> &'r C::Runtime
+        ensures { result ≡ self.now.rt }
+    {
         self.rt
     }
 
     /// The allocator.
-    pub fn alloc(&self) -> Global {
+    pub fn alloc(&self) -> Global
+        ensures { result ≡ self.now.alloc }
+    {
         self.alloc
     }
 
@@ -242,6 +247,7 @@ impl<'r, 'a, C: Context> Reporter<'r, 'a, C> {
             IsInnermost C.Run.unit.frame.table self.now.events.running d.now) }
         ensures err { OnErr result ((d : DescriptorView)
             → ¬ IsInnermost C.Run.unit.frame.table self.now.events.running d) }
+        ensures cause { IfErr result (λ why. why ≡ Own OUT_OF_ORDER) }
     {
         self.events.descriptor()
     }
