@@ -48,7 +48,7 @@ fn add(
     dtype: DType,
 ) -> Result<u32, TableFault>
     ensures ok { IfOk result (λ key. IsAddedAs table.old table.new
-        (addition parent.entry (segment_view segment.entry) name.now dtype) (Ok key)) }
+        (addition parent (segment_view segment.entry) name.now dtype) (Ok key)) }
     ensures err { OnErr result (table.new ≡ table.old) }
 {
     let segment = match Segment::new(alloc, segment.0, segment.1) {

@@ -1,28 +1,29 @@
 -- What a reporter's calls promise.
-use Rattle.std.proofs.Common.{◌≡◌, ◌≤◌, inr, ℕ, sym, ap, ◌∙◌, subst}
-use Rattle.std.specs.Prelude.{Result, OnOk, Option}
+use Rattle.std.proofs.Common.{◌≡◌, ◌≤◌, ◌<◌, inr, ⊎_elim, ℕ, List, [], ◌∷◌, ◌++◌, refl, sym, ap}
+use Rattle.std.proofs.Common.{◌∙◌, arith, length, subst}
+use Rattle.std.specs.List.{AllByRecursion}
+use Rattle.std.specs.Prelude.{◌⊎◌, Result, OnOk, Option}
+use Rattle.tk_ids.specs.IdText.{IsSegment, SegmentView}
+use Rattle.tk_ids.specs.declared.descriptors.DType.TheVariants.{Test}
 use Rattle.tk_events.specs.declared.kinds.Kind.TheVariants.{Finished, Skipped, Started}
 use Rattle.tk_events.specs.declared.payloads.Payload.{Payload}
-use Rattle.tk_events.specs.declared.payloads.Payload.TheVariants.{Nothing}
+use Rattle.tk_events.specs.declared.payloads.Payload.TheVariants.{Nothing, Reason}
 use Rattle.tk_queue_session.specs.Registering.{RegisterRequest}
 use Rattle.tk_queue_session.specs.Senders.{sends}
 use Rattle.tk_engine_execute.specs.Engines.{Extends}
 use Rattle.tk_engine_execute.specs.declared.engines.UnitFault.{UnitFault}
 use Rattle.tk_engine_unit_events.specs.Endings.{payload_of}
-use Rattle.tk_engine_unit_events.specs.UnitSteps.{BodyRuns, ChildView, HasFinished, HasSkipped}
-use Rattle.tk_engine_unit_events.specs.UnitSteps.{HasStarted, UnitView, child_request, event}
+use Rattle.tk_engine_unit_events.specs.Refusals.{IsChildCause, child_start}
+use Rattle.tk_engine_unit_events.specs.Standing.{BegunUnit}
+use Rattle.tk_engine_unit_events.specs.Taken.{IsFaultOfTaken, IsTaken}
+use Rattle.tk_engine_unit_events.specs.UnitSteps.{BodyRuns, ChildView, Grew, HasFinished}
+use Rattle.tk_engine_unit_events.specs.UnitSteps.{HasSkipped, HasStarted, UnitView, child}
+use Rattle.tk_engine_unit_events.specs.UnitSteps.{child_request, event}
 use Rattle.tk_engine_hierarchical.specs.Causes.{first_cause}
 use Rattle.tk_engine_hierarchical.specs.Reporting.{EndsChild, HasBegunChild, HasBegunDynamic}
-use Rattle.tk_engine_hierarchical.specs.Reporting.{HasFailedDynamic, HasRunChild}
+use Rattle.tk_engine_hierarchical.specs.Reporting.{HasFailedDynamic, HasRunChild, IsSegmentCause}
 use Rattle.tk_engine_unit_events.specs.declared.outcomes.Outcome.{Outcome}
-use Rattle.tk_engine_unit_events.proofs.UnitSteps.{on_ok}
-
-pub skipped_at : (old new : UnitView) (ask : ℕ → RegisterRequest) (given stamp : ℕ)
-    (reason : Payload) → given ≡ stamp
-    → (key : ℕ) × HasSkipped old new (ask given) (event Skipped key given reason) → (key : ℕ)
-    × HasSkipped old new (ask stamp) (event Skipped key stamp reason)
-skipped_at old new ask given stamp reason same s = subst
-    (λ n. (key : ℕ) × HasSkipped old new (ask n) (event Skipped key n reason)) same s
+use Rattle.tk_engine_unit_events.proofs.UnitSteps.{grew_same, on_ok}
 
 pub has_run_child : (may_run : BodyRuns) (old started before new : UnitView)
     (ask : ℕ → RegisterRequest) (key given stamp : ℕ) (outcome : Outcome) → given ≡ stamp
@@ -108,3 +109,62 @@ ends_child statics may_end old new key outcome dynamic its f = record {
   took = f.took ∙ ap (λ n. sends old.sink (event Finished key n (payload_of outcome)))
       (sym f.stamp);
 }
+
+-- ---- segments of a tag and a value
+
+last_segment : (id : List SegmentView) (s : SegmentView) → AllByRecursion IsSegment (id ++ s ∷ [])
+    → IsSegment s
+last_segment [] s all = all.0
+last_segment (x ∷ xs) s all = last_segment xs s all.1
+
+no_text : (text : List ℕ) → text ≡ [] → 0 < length text → ⊥
+no_text text is long = let none = ap length is in absurd (omega (arith, none, long))
+
+-- a segment that can't be made is no child's that is there
+empty_is_free : (unit : BegunUnit) (u : UnitView) (s : SegmentView)
+    → (s.tag ≡ []) ⊎ (s.value ≡ []) → ¬ IsTaken unit u s
+empty_is_free unit u s empty t =
+    let its = last_segment t.id s t.child_is_id.1 in
+    ⊎_elim (λ a. no_text s.tag a its.0.0) (λ b. no_text s.value b its.1.0) empty
+
+pub unmade_taken : (unit : BegunUnit) (u : UnitView) (s : SegmentView) (why : UnitFault)
+    → IsSegmentCause s why → IsTaken unit u s → IsFaultOfTaken why
+unmade_taken unit u s why cause t =
+    ⊎_elim (λ a. absurd (empty_is_free unit u s a.0 t)) (λ m. inr m) cause
+
+-- nothing happened
+pub grew_none : (u : UnitView) → Grew u u
+grew_none u = grew_same u u refl refl refl refl
+
+-- a skip with a segment and a reason that were copied
+pub named_skip : (old new : UnitView) (s t : SegmentView) (name : List ℕ) (given stamp : ℕ)
+    (copied reason : List ℕ) → s ≡ t → given ≡ stamp → copied ≡ reason
+    → (above : ℕ) × (key : ℕ) × HasSkipped old new (child_request (child Test s name) above given)
+    (event Skipped key given (Reason copied))
+    → (above : ℕ) × (key : ℕ) × HasSkipped old new (child_request (child Test t name) above stamp)
+    (event Skipped key stamp (Reason reason))
+named_skip old new s t name given stamp copied reason a b c skip =
+    subst (λ r. (above : ℕ) × (key : ℕ)
+    × HasSkipped old new (child_request (child Test t name) above stamp)
+    (event Skipped key stamp (Reason r))) c
+    (subst (λ n. (above : ℕ) × (key : ℕ)
+    × HasSkipped old new (child_request (child Test t name) above n)
+    (event Skipped key n (Reason copied))) b
+    (subst (λ x. (above : ℕ) × (key : ℕ)
+    × HasSkipped old new (child_request (child Test x name) above given)
+    (event Skipped key given (Reason copied))) a skip))
+
+pub named_skip_cause : (unit : BegunUnit) (u : UnitView) (s t : SegmentView) (name : List ℕ)
+    (given stamp : ℕ) (copied reason : List ℕ) (why : UnitFault)
+    → s ≡ t → given ≡ stamp → copied ≡ reason
+    → IsChildCause unit u (child_start (child Test s name) given
+    (λ key. event Skipped key given (Reason copied))) why
+    → IsChildCause unit u (child_start (child Test t name) stamp
+    (λ key. event Skipped key stamp (Reason reason))) why
+named_skip_cause unit u s t name given stamp copied reason why a b c cause =
+    subst (λ r. IsChildCause unit u (child_start (child Test t name) stamp
+    (λ key. event Skipped key stamp (Reason r))) why) c
+    (subst (λ n. IsChildCause unit u (child_start (child Test t name) n
+    (λ key. event Skipped key n (Reason copied))) why) b
+    (subst (λ x. IsChildCause unit u (child_start (child Test x name) given
+    (λ key. event Skipped key given (Reason copied))) why) a cause))

@@ -176,7 +176,8 @@ impl<'r, 'a, C: Context> Reporter<'r, 'a, C> {
             (dynamic_start child.now self.old.events.stamp) why
             ⊎ HasBegunDynamic self.old.events self.new.events child.now) }
     {
-        let (rt, alloc, stamp) = (self.rt, self.alloc, self.events.stamp());
+        let (rt, alloc) = (self.rt, self.alloc);
+        let stamp = self.events.stamp();
         let key = self.events.start_child(rt, alloc, child, stamp, stamp)?;
         let body = ReportingBody { body };
         let ended = self.events.run_body(rt, alloc, &body);
