@@ -74,7 +74,7 @@ pub returns-in_err-key-clause-cause : goal.returns-in_err-key-clause-cause
 returns-in_err-key-clause-cause g c =
     let p = err_from_is_err_and c.from_residual.result c.from_residual.ensures.1 in
     rw (p.1, p.2)
-    (inl (subst (λ n. IsChildCause g.K.UnitRun.unit c.args.self.now.events
+    (inl (subst (λ n. IsChildCause g.C.Run.UnitRun.unit c.args.self.now.events
     (dynamic_start c.args.child.now n) c.in_err-key.field-0.0)
     c.stamp-stamp.ensures c.in_err-key.ensures.cause))
 
