@@ -1,9 +1,8 @@
 -- What a reporter's calls promise.
-use Rattle.std.proofs.Common.{◌≡◌, ◌≤◌, ◌<◌, inr, ⊎_elim, ℕ, List, [], ◌∷◌, ◌++◌, refl, sym, ap}
-use Rattle.std.proofs.Common.{◌∙◌, arith, length, subst}
-use Rattle.std.specs.List.{AllByRecursion}
-use Rattle.std.specs.Prelude.{◌⊎◌, Result, OnOk, Option}
-use Rattle.tk_ids.specs.IdText.{IsSegment, SegmentView}
+use Rattle.std.proofs.Common.{◌≡◌, ◌≤◌, inr, ℕ, List, sym, ap}
+use Rattle.std.proofs.Common.{◌∙◌, subst}
+use Rattle.std.specs.Prelude.{Result, OnOk, Option}
+use Rattle.tk_ids.specs.IdText.{SegmentView}
 use Rattle.tk_ids.specs.declared.descriptors.DType.TheVariants.{Test}
 use Rattle.tk_events.specs.declared.kinds.Kind.TheVariants.{Finished, Skipped, Started}
 use Rattle.tk_events.specs.declared.payloads.Payload.{Payload}
@@ -15,15 +14,14 @@ use Rattle.tk_engine_execute.specs.declared.engines.UnitFault.{UnitFault}
 use Rattle.tk_engine_unit_events.specs.Endings.{payload_of}
 use Rattle.tk_engine_unit_events.specs.Refusals.{IsChildCause, child_start}
 use Rattle.tk_engine_unit_events.specs.Standing.{BegunUnit}
-use Rattle.tk_engine_unit_events.specs.Taken.{IsFaultOfTaken, IsTaken}
-use Rattle.tk_engine_unit_events.specs.UnitSteps.{BodyRuns, ChildView, Grew, HasFinished}
+use Rattle.tk_engine_unit_events.specs.UnitSteps.{BodyRuns, ChildView, HasFinished}
 use Rattle.tk_engine_unit_events.specs.UnitSteps.{HasSkipped, HasStarted, UnitView, child}
 use Rattle.tk_engine_unit_events.specs.UnitSteps.{child_request, event}
 use Rattle.tk_engine_hierarchical.specs.Causes.{first_cause}
 use Rattle.tk_engine_hierarchical.specs.Reporting.{EndsChild, HasBegunChild, HasBegunDynamic}
-use Rattle.tk_engine_hierarchical.specs.Reporting.{HasFailedDynamic, HasRunChild, IsSegmentCause}
+use Rattle.tk_engine_hierarchical.specs.Reporting.{HasFailedDynamic, HasRunChild}
 use Rattle.tk_engine_unit_events.specs.declared.outcomes.Outcome.{Outcome}
-use Rattle.tk_engine_unit_events.proofs.UnitSteps.{grew_same, on_ok}
+use Rattle.tk_engine_unit_events.proofs.UnitSteps.{on_ok}
 
 pub has_run_child : (may_run : BodyRuns) (old started before new : UnitView)
     (ask : ℕ → RegisterRequest) (key given stamp : ℕ) (outcome : Outcome) → given ≡ stamp
@@ -109,32 +107,6 @@ ends_child statics may_end old new key outcome dynamic its f = record {
   took = f.took ∙ ap (λ n. sends old.sink (event Finished key n (payload_of outcome)))
       (sym f.stamp);
 }
-
--- ---- segments of a tag and a value
-
-last_segment : (id : List SegmentView) (s : SegmentView) → AllByRecursion IsSegment (id ++ s ∷ [])
-    → IsSegment s
-last_segment [] s all = all.0
-last_segment (x ∷ xs) s all = last_segment xs s all.1
-
-no_text : (text : List ℕ) → text ≡ [] → 0 < length text → ⊥
-no_text text is long = let none = ap length is in absurd (omega (arith, none, long))
-
--- a segment that can't be made is no child's that is there
-empty_is_free : (unit : BegunUnit) (u : UnitView) (s : SegmentView)
-    → (s.tag ≡ []) ⊎ (s.value ≡ []) → ¬ IsTaken unit u s
-empty_is_free unit u s empty t =
-    let its = last_segment t.id s t.child_is_id.1 in
-    ⊎_elim (λ a. no_text s.tag a its.0.0) (λ b. no_text s.value b its.1.0) empty
-
-pub unmade_taken : (unit : BegunUnit) (u : UnitView) (s : SegmentView) (why : UnitFault)
-    → IsSegmentCause s why → IsTaken unit u s → IsFaultOfTaken why
-unmade_taken unit u s why cause t =
-    ⊎_elim (λ a. absurd (empty_is_free unit u s a.0 t)) (λ m. inr m) cause
-
--- nothing happened
-pub grew_none : (u : UnitView) → Grew u u
-grew_none u = grew_same u u refl refl refl refl
 
 -- a skip with a segment and a reason that were copied
 pub named_skip : (old new : UnitView) (s t : SegmentView) (name : List ℕ) (given stamp : ℕ)

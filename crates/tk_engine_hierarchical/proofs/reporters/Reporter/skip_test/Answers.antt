@@ -1,10 +1,6 @@
-use Rattle.std.proofs.Common.{inl, inr, refl, subst}
-use Rattle.std.proofs.lemmas.Result.{err_from_is_err_and}
-use Rattle.tk_engine_unit_events.specs.Taken.{IsFaultOfTaken, IsTaken}
+use Rattle.std.proofs.Common.{inr}
 use Rattle.tk_engine_unit_events.proofs.UnitSteps.{if_err_then, on_ok}
-use Rattle.tk_engine_hierarchical.specs.Reporting.{segment_view}
-use Rattle.tk_engine_hierarchical.proofs.Reported.{grew_none, named_skip, named_skip_cause}
-use Rattle.tk_engine_hierarchical.proofs.Reported.{unmade_taken}
+use Rattle.tk_engine_hierarchical.proofs.Reported.{named_skip, named_skip_cause}
 use Rattle.tk_engine_hierarchical.proofs.reporters.Reporter.skip_test.Goals as goal
 
 pub returns-clause-ok : goal.returns-clause-ok
