@@ -1,5 +1,5 @@
 -- What a unit does to the sink that is lent to it.
-use Rattle.std.proofs.Common.{◌≡◌, ℕ, List, Ok, [], ◌∷◌, ◌++◌, refl, sym, ap, ◌∙◌, append_assoc}
+use Rattle.std.proofs.Common.{◌≡◌, ℕ, Ok, [], ◌∷◌, ◌++◌, sym, ap, ◌∙◌, append_assoc}
 use Rattle.std.proofs.Common.{append-nil, subst}
 use Rattle.std.specs.Prelude.{Err, OnErr, OnOk, Result}
 use Rattle.tk_events.specs.declared.events.Event.{Event}
@@ -47,8 +47,8 @@ extends_registered a b c ask key r some =
     extends_after a b c (registration b ask.stamp (child_of ask r.0)) r.5 some
 
 -- one event more, or nothing where it was refused
-pub after_emit : {A F : Type 0} (P : SenderView → Type 0) (r : Result (Unit {0}) F)
+pub after_emit : {F : Type 0} (A : Type 0) (P : SenderView → Type 0) (r : Result (Unit {0}) F)
     (old new : SenderView) (e : Event) → OnOk r (A × (new ≡ sends old e)) → OnErr r (new ≡ old)
     → P old → P (sends old e) → P new
-after_emit P (Ok _) old new e ok err before after = subst P (sym ok.1) after
-after_emit P (Err _) old new e ok err before after = subst P (sym err) before
+after_emit A P (Ok _) old new e ok err before after = subst P (sym ok.1) after
+after_emit A P (Err _) old new e ok err before after = subst P (sym err) before

@@ -9,8 +9,8 @@ invariant_of-self g c =
     let old = g.S.Sink.view c.self.inside.lent.sink.now in
     let i = c.self.invariant in (
       i.0,
-      after_emit (IsSameSender start) c.emit.result old _ c.args.event c.emit.ensures.ok
+      after_emit _ (IsSameSender start) c.emit.result old _ c.args.event c.emit.ensures.ok
           c.emit.ensures.err i.1 (same_after start old _ c.args.event refl i.1),
-      after_emit (Extends start) c.emit.result old _ c.args.event c.emit.ensures.ok
+      after_emit _ (Extends start) c.emit.result old _ c.args.event c.emit.ensures.ok
           c.emit.ensures.err i.2 (extends_after start old _ c.args.event refl i.2),
     )
