@@ -33,8 +33,9 @@ MAKES = [
         {"FrontDeskTests": "EvenNumbers", "front_desk_engine": "even_numbers", '"front_desk"': '"even"', "engine:front_desk": "engine:even", "use front_desk": "use example_engine"},
     ),
     Makes(
-        "an engine by hand", ["--by-hand", "front_desk"], "by_hand/numbers.rt", "FrontDeskEngine",
-        {"FrontDeskEngine": "NumberEngine", '"front_desk"': '"numbers"', "engine:front_desk": "engine:numbers", "use front_desk": "use example_engine::by_hand"},
+        "an engine by hand", ["--by-hand", "front_desk"], "by_hand/numbers.rt",
+        "{FrontDeskUnits, front_desk_engine}",
+        {"FrontDeskUnits": "NumberUnits", "front_desk_engine": "number_engine", '"front_desk"': '"numbers"', "engine:front_desk": "engine:numbers", "use front_desk": "use example_engine::by_hand"},
     ),
 ]
 

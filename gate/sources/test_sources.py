@@ -12,7 +12,7 @@ LIMITS = Limits(
     # (an author needs no clause to make an engine of tests; no clause can say what another thread does)
     without_clause=[
         "crates/tk_overlaps/src/meetings.rt wait",
-        *("crates/example_engine/src/by_hand/broken.rt new", "crates/example_engine/src/by_hand/numbers.rt new"),
+        *("crates/example_engine/src/by_hand/broken.rt new", "crates/example_engine/src/by_hand/numbers.rt number_engine"),
         *("crates/example_engine/src/case_tests.rt case_engine", "crates/example_engine/src/evens.rt even_numbers"),
     ],
     fewest_edits=113,

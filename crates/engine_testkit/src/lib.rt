@@ -16,9 +16,10 @@ pub mod questions;
 pub mod record;
 
 pub use engine::{
-    Body, BookSeat, Engine, Hierarchical, Need, Outcome, Reporter, Results, RunFault, Sink, Tests,
-    UnitFault, UnitRun, emit, execute, file_published, finish, finished, publish_file, register,
-    report, reported, run_tests, skip, skipped, start, started,
+    Body, BookSeat, Context, Emitter, Engine, Hierarchical, Need, Outcome, Reporter, Results,
+    RunFault, Sink, Tests, UnitContext, UnitEngine, UnitFault, UnitTable, Units, emit, execute,
+    file_published, finish, finished, publish_file, register, report, reported, run_tests, skip,
+    skipped, start, started,
 };
 pub use plans::{ExecutionMode, LockMode, Plan, PlanFault, PlanNode, build_plan};
 pub use questions::{

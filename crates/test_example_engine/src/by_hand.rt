@@ -4,3 +4,4 @@ mod broken;
 mod cases;
 mod even;
 mod numbers;
+mod units;

@@ -1,1 +1,2 @@
 pub mod Emissions
+mod LentSinks
