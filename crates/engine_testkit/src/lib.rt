@@ -21,12 +21,13 @@ pub use engine::{
     file_published, finish, finished, publish_file, register, report, reported, run_tests, skip,
     skipped, start, started,
 };
-pub use plans::{ExecutionMode, LockMode, Plan, PlanFault, PlanNode, build_plan};
+pub use plans::{ExecutionMode, Plan, PlanFault, PlanNode, build_plan};
 pub use questions::{
     Condition, Ending, Exact, Exclusive, Execution, Executions, Expect, Failure, InOrder, Lifecycle,
-    LifecycleRule, Loose, exclusive, executions, match_exactly, match_in_order, match_loosely,
+    LifecycleRule, LockAnswer, Loose, exclusive, executions, locks, match_exactly, match_in_order,
+    match_loosely,
 };
 pub use record::{
-    DType, Descriptor, Event, Events, Expected, Kind, Mismatch, Pairs, Payload, Segment, Selection,
+    DType, Descriptor, Event, Events, Expected, Kind, LockMode, Mismatch, Pairs, Payload, Segment, Selection,
     Status, Table, TableFault, Text,
 };

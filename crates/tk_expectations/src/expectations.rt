@@ -4,6 +4,7 @@ ghost use Rattle.tk_query_conditions.specs.Cond.{Any, Nothing};
 ghost use Rattle.tk_query_conditions.specs.CondOf.{cond_of};
 ghost use Rattle.tk_explanations.specs.Collisions.{ExplainsExclusive};
 ghost use Rattle.tk_explanations.specs.Lifecycles.{ExplainsLifecycle};
+ghost use Rattle.tk_explanations.specs.LockCollisions.{ExplainsLocks};
 ghost use Rattle.tk_explanations.specs.Matches.{ExplainsExactly, ExplainsInOrder, ExplainsLoosely};
 ghost use Rattle.tk_explanations.specs.Statistics.{ExplainsStatistics};
 ghost use Rattle.tk_record.specs.Selections.{all_of};
@@ -20,7 +21,9 @@ use crate::report_differences::difference;
 use crate::uncounted_events::uncounted_events;
 use std::alloc::{AllocError, Global};
 use testkit_questions::{Mode, explain_match, read_conditions, read_expectations};
-use tk_explanations::{explain_exclusive, explain_lifecycle, explain_statistics};
+use tk_explanations::{
+    explain_exclusive, explain_lifecycle, explain_locks, explain_statistics,
+};
 use tk_query_conditions::Condition;
 use tk_record::{Events, Expected, Record, Selection};
 use tk_report_text::write_report_of;
@@ -171,6 +174,17 @@ impl<'r> Expect<'r> {
     {
         let mut explanation = ByteTarget::new(self.alloc);
         let is_yes = explain_lifecycle(self.alloc, self.record, &mut explanation)?;
+        self.judge(is_yes, explanation)
+    }
+
+    /// Expects that executions that conflict over a lock kept away from each other, and that two
+    /// such executions are there. The question `locks`.
+    pub fn locks(self) -> Result<Expect<'r>, Failure>
+        ensures { IsJudged self.entry (ExplainsLocks (all_of self.entry.«record».now)) result }
+    {
+        let events = Events::all(self.alloc, self.record)?;
+        let mut explanation = ByteTarget::new(self.alloc);
+        let is_yes = explain_locks(self.alloc, &events, &mut explanation)?;
         self.judge(is_yes, explanation)
     }
 
