@@ -21,10 +21,10 @@ use Rattle.tk_queue_session.specs.Senders.{SenderView, sends, record_of_sender}
 abbrev pub HasRoom : SenderView → Type 0
 HasRoom s = (length s.sent < most_events) × (registrations s.sent < MAX_DESCRIPTORS)
 
--- the descriptor below a parent
+-- the descriptor below a parent, which declares no lock
 abbrev pub child : Descriptor → SegmentView → List ℕ → DType → Descriptor
 child above segment name dtype =
-    record { id = above.id ++ segment ∷ []; name = name; dtype = dtype }
+    record { id = above.id ++ segment ∷ []; name = name; dtype = dtype; locks = [] }
 
 -- the sender's next registration
 abbrev pub registration : SenderView → ℕ → Descriptor → Event
