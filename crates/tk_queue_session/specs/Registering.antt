@@ -22,7 +22,7 @@ use Rattle.tk_queue_session.specs.Senders.{SenderView, sends, record_of_sender}
 abbrev pub HasRoom : SenderView → Type 0
 HasRoom s = (length s.sent < most_events) × (registrations s.sent < MAX_DESCRIPTORS)
 
--- the descriptor below a parent
+-- the descriptor below a parent, which declares no lock
 abbrev pub child : Descriptor → SegmentView → List ℕ → DType → Descriptor
 child above segment name dtype =
     unlocked (above.id ++ segment ∷ []) name dtype
