@@ -102,8 +102,8 @@ locks_at [] key = []
 locks_at (d ∷ table) zero = d.locks
 locks_at (d ∷ table) (suc key) = locks_at table key
 
--- what adding a lock to the descriptor with this key answers, and the table after it; the answer may
--- always be `Memory`
+-- what adding a lock to the descriptor with this key answers, and the table after it; the answer
+-- may always be `Memory`
 abbrev pub IsLockedAs :
     List Descriptor → List Descriptor → ℕ → Lock → Result (Unit {0}) LockFault → Type 0
 IsLockedAs old new key lock (Ok _) =

@@ -125,14 +125,6 @@ impl Model for Locks {
     ghost invariant = { λ l. AreLocks (kept_locks l.items) };
 }
 
-impl Default for Locks {
-    fn default() -> Locks
-        ensures { result ≡ [] }
-    {
-        Locks::new()
-    }
-}
-
 impl Locks {
     /// No lock.
     pub fn new() -> Locks

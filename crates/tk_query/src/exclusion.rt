@@ -3,7 +3,8 @@ ghost use Rattle.std.specs.Prelude.{◌≡◌, ℕ, ◌<◌, ◌+◌, true, fals
 ghost use Rattle.tk_query.specs.Exclusive.{IsExclusive};
 ghost use Rattle.tk_query.specs.ExecutionSteps.{step_at};
 ghost use Rattle.tk_query.specs.Fitting.{TellFits};
-ghost use Rattle.tk_query.specs.steps.Holders.{AreEnds, AreFinishes, HasOther, HavePair, IsAnswerOf, IsFirstMet, MeetsNone, holds_any, is_written, meet};
+ghost use Rattle.tk_query.specs.Finishes.{AreFinishes};
+ghost use Rattle.tk_query.specs.steps.Holders.{AreEnds, HasOther, HavePair, IsAnswerOf, IsFirstMet, MeetsNone, holds_any, is_written, meet};
 
 use crate::answers::Exclusive;
 use crate::masks::mask;
