@@ -9,6 +9,7 @@ use Rattle.std.proofs.lemmas.List.{map-append}
 use Rattle.std.proofs.lemmas.Option.{same_Some}
 use Rattle.tk_base.proofs.Options.{option_or-assoc, option_or_none_left, option_or_none_right}
 use Rattle.tk_ids.specs.IdText.{SegmentView}
+use Rattle.tk_ids.specs.Table.{unlocked}
 use Rattle.tk_ids.specs.declared.descriptors.Descriptor.{Descriptor}
 use Rattle.tk_events.specs.declared.kinds.Kind.TheVariants.{Dynamic}
 use Rattle.tk_events.specs.declared.payloads.Payload.TheVariants.{Described, Nothing}
@@ -171,7 +172,7 @@ module _ (nodes : List NumberedNode) (table : List Descriptor) (planned : IsPlan
         let next : registered_key old.worker (registrations (sent ++ l)) ≡ base + length known = omega (arith, count, split) in
         let key_is : registered_key old.worker (registrations old.sent) ≡ base + length known = ap (λ es. registered_key old.worker (registrations es)) was.emitted ∙ next in
         let event_of_step : registration old stamp (child upper r.node.segment r.node.name r.node.dtype) ≡ step_event nodes (length table) base known step =
-        ap₂ (λ k i. event Dynamic k stamp (Described (record { id = i; name = r.node.name; dtype = r.node.dtype }))) key_is id_is
+        ap₂ (λ k i. event Dynamic k stamp (Described (unlocked i r.node.name r.node.dtype))) key_is id_is
         ∙ sym (ap (λ o. event Dynamic (base + length known) stamp (payload_of_node o (id_at nodes number) (Register parent))) r.is) in
         let longer : known_in [] (prefix ++ step ∷ []) ≡ known ++ number ∷ [] = known_in_more [] prefix step in
         let fresh : key ≡ base + length known = r.registered.4 ∙ key_is in
