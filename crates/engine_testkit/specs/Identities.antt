@@ -4,4 +4,6 @@ pub use Rattle.tk_ids.specs.DTypes.{is_container, is_test}
 pub use Rattle.tk_ids.specs.IdText.{FitsLimits, IsBelow, IsEngine, IsId, IsNonEmptyText, id_text}
 pub use Rattle.tk_ids.specs.IdText.{parent_of}
 pub use Rattle.tk_ids.specs.Table.{AreDifferent, HasId, HasParent, IsAddedAs, IsInsertedAs}
-pub use Rattle.tk_ids.specs.Table.{addition, ids_of}
+pub use Rattle.tk_ids.specs.Locks.{AreLocks}
+pub use Rattle.tk_ids.specs.Table.{HasParents, HaveLocks, IsLockedAs, addition, ids_of, locks_at}
+pub use Rattle.tk_ids.specs.Table.{with_locks}
