@@ -1,7 +1,7 @@
 //! An engine by hand of which nothing is to be proved.
 ghost use Rattle.std.specs.Prelude.{◌≡◌, ◌<◌, ◌≤◌, ◌++◌, ◌∷◌, [], None, Some, Ok, length, IfOk, OnOk, OnErr};
 ghost use Rattle.std.specs.Arc.{arc_value};
-ghost use Rattle.tk_ids.specs.Table.{IsAddedAs, addition};
+ghost use Rattle.tk_ids.specs.Table.{IsAddedAs, IsLockedAs, addition};
 ghost use Rattle.tk_ids.specs.declared.descriptors.DType.TheVariants.{Container};
 ghost use Rattle.tk_engine_events.specs.Emitters.{segment_view};
 ghost use Rattle.tk_engine_execute.specs.Engines.{Extends, IsSameSender};
@@ -13,7 +13,7 @@ use std::marker::Brand;
 use std::sync::{Arc, Wait};
 use tk_engine_execute::{Engine, MAX_UNITS, Sink, UnitFault};
 use tk_events::{Event, Status};
-use tk_ids::{DType, Segment, Table, TableFault};
+use tk_ids::{DType, LockFault, LockMode, Segment, Table, TableFault};
 use tk_locks::{BookSeat, Need};
 
 /// What the units of a [`UnitEngine`] do.
@@ -92,6 +92,25 @@ impl UnitTable {
         ensures needs { self.new.needs.items ≡ self.old.needs.items }
     {
         add(alloc, &mut self.table, Some(parent), segment, name, dtype)
+    }
+
+    /// Declares a lock of the descriptor with this key, so that the record tells it. What a unit
+    /// holds while it runs is what it needs.
+    ///
+    /// # Errors
+    /// As [`Table::lock`].
+    pub fn lock(
+        &mut self,
+        alloc: Global,
+        key: u32,
+        name: &str,
+        mode: LockMode,
+    ) -> Result<(), LockFault>
+        ensures table { IsLockedAs self.old.table self.new.table key
+            (record { name = name.now; mode = mode }) result }
+        ensures needs { self.new.needs.items ≡ self.old.needs.items }
+    {
+        self.table.lock(alloc, key, name, mode)
     }
 
     /// Adds a unit that needs these resources while it runs. The units are numbered from 0.

@@ -329,6 +329,7 @@ module _ (s : ShapeView) (unit : BegunUnit) (sink : SenderView) (u : UnitView)
       → IsRegisteredAs sink after (child_request c.child first.key c.registered) (Ok key)
       → IsEmitCause after (c.first key) why → new ≡ record u { sink = after }
       → HasRefused u new c why
+  unfolding unsent
   left_registered new c after key (Own number) done refused left = absurd refused
   left_registered new c after key Memory done refused left = absurd refused
   left_registered new c after key (Sink (Register why)) done refused left = absurd refused

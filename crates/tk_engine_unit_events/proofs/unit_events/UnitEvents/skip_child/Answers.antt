@@ -5,7 +5,7 @@ use Rattle.tk_engine_execute.specs.Engines.{Extends}
 use Rattle.tk_engine_unit_events.specs.Refusals.{child_start}
 use Rattle.tk_engine_unit_events.specs.Running.{keys_of, with_id, with_ids}
 use Rattle.tk_engine_unit_events.specs.Standing.{StandsAt}
-use Rattle.tk_engine_unit_events.specs.UnitSteps.{UnitView, event}
+use Rattle.tk_engine_unit_events.specs.UnitSteps.{UnitView, child_request, event}
 use Rattle.tk_engine_unit_events.specs.declared.running_keys.RunningKey.{RunningKey}
 use Rattle.tk_engine_unit_events.proofs.Registered.{registers, stands_registered, stands_skipped}
 use Rattle.tk_engine_unit_events.proofs.UnitStates.{after_emit}
@@ -169,9 +169,9 @@ returns-clause-cause g c =
 pub returns-in_err-innermost-clause-refused : goal.returns-in_err-innermost-clause-refused
 returns-in_err-innermost-clause-refused g c =
     let p = err_from_is_err_and c.from_residual.result c.from_residual.ensures.1 in
-    rw (p.1) (left_same _ _ (child_start c.args.child.now c.args.registered
+    rw (p.1, p.2) (left_same _ _ (child_start c.args.child.now c.args.registered
     (λ key. event Skipped key c.args.stamp c.args.reason)) _
-    (λ fault is. own_is_other (sym (p.2 ∙ c.in_err-innermost.ensures.order) ∙ is))
+    (λ fault is. own_is_other (sym c.in_err-innermost.ensures.order ∙ is))
     (same_view _ _ (ap (λ (v : UnitView). v.sink) c.self.view_is)
     (ap (λ (v : UnitView). v.running) c.self.view_is)
     (ap (λ (v : UnitView). v.stamp) c.self.view_is)
@@ -183,7 +183,10 @@ returns-in_err-key-clause-refused g c =
     c.from_residual-in_err-key.ensures.1 in
     rw (p.1, p.2) (left_same _ _ (child_start c.args.child.now c.args.registered
     (λ key. event Skipped key c.args.stamp c.args.reason)) _
-    (not_sent _ _ _ _ c.in_err-key.ensures.sink)
+    (not_sent (g.S.Sink.view c.self.inside.lease.sink.now)
+    (child_request c.args.child.now c.in_ok-innermost.innermost.now.key c.args.registered)
+    (with_id c.self.inside.shape.now.plan.table c.in_ok-innermost.innermost.now).id _
+    c.in_err-key.ensures.sink)
     (same_view _ _ (c.in_err-key.ensures.err ∙ ap (λ (v : UnitView). v.sink) c.self.view_is)
     (ap (λ (v : UnitView). v.running) c.self.view_is)
     (ap (λ (v : UnitView). v.stamp) c.self.view_is)

@@ -5,7 +5,7 @@ use Rattle.tk_events.specs.declared.payloads.Payload.TheVariants.{Nothing}
 use Rattle.tk_engine_execute.specs.Engines.{Extends}
 use Rattle.tk_engine_unit_events.specs.Refusals.{child_start}
 use Rattle.tk_engine_unit_events.specs.Running.{keys_of, with_id, with_ids}
-use Rattle.tk_engine_unit_events.specs.UnitSteps.{UnitView, event}
+use Rattle.tk_engine_unit_events.specs.UnitSteps.{UnitView, child_request, event}
 use Rattle.tk_engine_unit_events.specs.declared.running_keys.RunningKey.{RunningKey}
 use Rattle.tk_engine_unit_events.proofs.Registered.{has_registered, registers, stands_registered}
 use Rattle.tk_engine_unit_events.proofs.Registered.{stands_started}
@@ -264,7 +264,10 @@ returns-in_err-key-clause-refused g c =
     c.from_residual-in_err-key.ensures.1 in
     rw (p.1, p.2) (left_same _ _ (child_start c.args.child.now c.args.registered
     (λ key. event Started key c.args.stamp Nothing)) _
-    (not_sent _ _ _ _ c.in_err-key.ensures.sink)
+    (not_sent (g.S.Sink.view c.self.inside.lease.sink.now)
+    (child_request c.args.child.now c.in_ok-innermost.innermost.now.key c.args.registered)
+    (with_id c.self.inside.shape.now.plan.table c.in_ok-innermost.innermost.now).id _
+    c.in_err-key.ensures.sink)
     (same_view _ _ (c.in_err-key.ensures.err ∙ ap (λ (v : UnitView). v.sink) c.self.view_is)
     (ap (λ (l : List RunningKey). keys_of (with_ids g.K.UnitRun.unit.frame.table l))
     c.reserve.ensures.same ∙ ap (λ (v : UnitView). v.running) c.self.view_is)
