@@ -23,11 +23,11 @@ pub use engine::{
 };
 pub use plans::{ExecutionMode, Plan, PlanFault, PlanNode, build_plan};
 pub use questions::{
-    Condition, Ending, Exact, Exclusive, Execution, Executions, Expect, Failure, InOrder, Lifecycle,
-    LifecycleRule, LockAnswer, Loose, exclusive, executions, locks, match_exactly, match_in_order,
-    match_loosely,
+    Condition, Ending, Exact, Exclusive, Execution, Executions, Expect, Failure, InOrder,
+    Lifecycle, LifecycleRule, LockAnswer, Loose, exclusive, executions, locks, match_exactly,
+    match_in_order, match_loosely,
 };
 pub use record::{
-    DType, Descriptor, Event, Events, Expected, Kind, LockMode, Mismatch, Pairs, Payload, Segment, Selection,
-    Status, Table, TableFault, Text,
+    DType, Descriptor, Event, Events, Expected, Kind, LockMode, Mismatch, Pairs, Payload, Segment,
+    Selection, Status, Table, TableFault, Text,
 };
