@@ -45,11 +45,14 @@ fn one_to_fifteen_workers_report_the_same(rt: HostRuntime) {
 
 // The record of a run by one worker: the tables one after another, each case before the next one.
 fn record() -> &'static [u8] {
-    b"testkit-record|2
+    b"testkit-record|3
 N|C|[engine:cases]|cases
 N|B|[engine:cases]/[table:right]|right
 N|B|[engine:cases]/[table:wrong]|wrong
 N|B|[engine:cases]/[table:later]|later
+L|1|W|numbers
+L|2|W|numbers
+L|3|W|numbers
 E|0|0|0|start
 E|1|1|1|start
 E|1|65536|1|dynamic|T|[engine:cases]/[table:right]/[case:0]|0

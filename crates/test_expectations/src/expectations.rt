@@ -72,6 +72,12 @@ all events of these descriptors:
     assert_shown(
         &rt,
         alloc,
+        expect.locks(),
+        "no pair\n0 executions hold a lock\n",
+    );
+    assert_shown(
+        &rt,
+        alloc,
         expect.pick(Selection::Tests).stats("failed=2 started=1"),
         "skipped 1
 started 1
