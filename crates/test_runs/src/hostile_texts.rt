@@ -73,8 +73,8 @@ fn is_renewed(alloc: Global, record: &Record, text: &[u8]) -> bool {
     let mut target = ByteTarget::new(alloc);
     let is_written = write_record(alloc, record, &mut target).is_ok();
     let written = target.bytes();
-    let has_header =
-        written.starts_with(b"testkit-record|2\n") || written.starts_with(b"testkit-record|3\n");
+    let has_header = written.starts_with(b"testkit-record|2\n")
+        || written.starts_with(b"testkit-record|3\n");
     is_written && has_header && written.get(17..) == text.get(17..)
 }
 
