@@ -15,7 +15,10 @@ use tk_record::Events;
 
 /// Under the position of each start that of its finish, and 0 where no execution starts that
 /// finishes: a finish never stands at position 0.
-fn finishes_of(alloc: Global, events: &Events) -> Result<Vec<usize>, AllocError>
+///
+/// # Errors
+/// `AllocError` where a request for memory is refused.
+pub fn finishes_of(alloc: Global, events: &Events) -> Result<Vec<usize>, AllocError>
     ensures finishes { IfOk result (λ finishes. AreFinishes events.now finishes.items) }
 {
     // For the proof: no event stands past the end of the record.

@@ -1,0 +1,155 @@
+-- The executions in the lists, and those that an execution meets.
+use Rattle.std.proofs.Common.{◌≡◌, ℕ, zero, suc, ◌+◌, ◌<◌, ◌≤◌, Bool, true, false, ◌⊎◌, inl, inr, ⊎_elim, List, [], ◌∷◌, get_or, length, Option, Some, None, refl, sym, ap, ◌∙◌, subst, arith}
+use Rattle.std.specs.List.{Contains}
+use Rattle.std.specs.Option.{option_and_then}
+use Rattle.std.proofs.lemmas.Bool.{cases_lt, true≢false}
+use Rattle.std.proofs.lemmas.Option.{same_Some, none-some}
+use Rattle.tk_ids.specs.declared.descriptors.Descriptor.{Descriptor}
+use Rattle.tk_record.specs.Entries.{desc}
+use Rattle.tk_record.specs.Recorded.{Recorded}
+use Rattle.tk_query_locks.specs.Stub.{locks_of}
+use Rattle.tk_query_locks.specs.declared.stub.LockMode.{LockMode}
+use Rattle.tk_query_locks.specs.declared.stub.LockMode.TheVariants.{Read, ReadWrite}
+use Rattle.tk_query_locks.specs.declared.stub.Lock.{Lock}
+use Rattle.tk_query_locks.specs.Conflicts.{ConflictOver, Holds, IsTestWithoutChild, Uses, Writes, global_name, lock}
+use Rattle.tk_query_locks.specs.declared.holders.Holders.{Holders}
+use Rattle.tk_query_locks.specs.declared.holders.Running.{Running}
+use Rattle.tk_query_locks.specs.steps.Conflicts.{IsDescribed}
+use Rattle.tk_query_locks.specs.steps.Parents.{IsUnwritten}
+use Rattle.tk_query_locks.specs.steps.Positions.{descriptor_at, key_at}
+use Rattle.tk_query_locks.specs.steps.Holders.{AreListed, HaveLists, IsListed, IsListedAs, Keeps, LockIsListed, LockMeetsNone, Meet, MeetsNone, finish_of, under}
+
+-- the descriptor of an entry is one of the record
+pub described_at : (r : Recorded) (p : ℕ) (d : Descriptor) → descriptor_at r p ≡ Some d → IsDescribed r d
+described_at r p d is = by (key_at r p) is
+  where
+    by : (o : Option ℕ) → option_and_then (desc r) o ≡ Some d → IsDescribed r d
+    by None none = absurd (none-some d none)
+    by (Some key) some = (key, some)
+
+-- ---- whom an execution meets
+
+-- what a test says of a descriptor's use of `global`
+pub record TellsGlobal (r : Recorded) (d : Descriptor) (told : Bool) : Type 0 where
+  pub no : told ≡ false → IsTestWithoutChild r d → IsUnwritten r global_name
+
+module _ (h : Holders) (running : Running) (q : ℕ) (d : Descriptor) (at : descriptor_at h.conflicts q ≡ Some d) (listed : AreListed h q running)
+    (locks_none : (k : Lock) → Contains (locks_of d) k → LockMeetsNone h running k q)
+    (global_none : IsTestWithoutChild h.conflicts d → ((p : ℕ) → Contains (under h running.writers global_name) p → ¬ Meet h p q) ⊎ IsUnwritten h.conflicts global_name) where
+
+  -- the other holds the lock for writing
+  other_writes : (p : ℕ) (name : List ℕ) (a : Descriptor) → p < q → Meet h p q → descriptor_at h.conflicts p ≡ Some a → Writes name a → Uses h.conflicts name d → ⊥
+  other_writes p name a order met first writes uses =
+      let there = (listed.each p order met.running).writes name a first writes in
+      ⊎_elim {C = ⊥}
+      (λ (holds : Holds name d). (locks_none (lock name holds.0) holds.1).writers p there met)
+      (λ (test : (name ≡ global_name) × IsTestWithoutChild h.conflicts d). ⊎_elim {C = ⊥}
+      (λ (none : (p : ℕ) → Contains (under h running.writers global_name) p → ¬ Meet h p q).
+      none p (subst (λ n. Contains (under h running.writers n) p) test.0 there) met)
+      (λ (unwritten : IsUnwritten h.conflicts global_name).
+      let is = described_at h.conflicts p a first in
+      unwritten is.0 a is.1 (subst (λ n. Writes n a) test.0 writes))
+      (global_none test.1))
+      uses
+
+  -- this one holds the lock for writing
+  this_writes : (p : ℕ) (name : List ℕ) (a : Descriptor) → p < q → Meet h p q → descriptor_at h.conflicts p ≡ Some a → Writes name d → Uses h.conflicts name a → ⊥
+  this_writes p name a order met first writes uses =
+      let none = locks_none (lock name ReadWrite) writes in
+      ⊎_elim {C = ⊥}
+      (λ (there : Contains (under h running.writers name) p). none.writers p there met)
+      (λ (rest : Contains (under h running.readers name) p ⊎ IsUnwritten h.conflicts name). ⊎_elim {C = ⊥}
+      (λ (there : Contains (under h running.readers name) p). none.readers refl p there met)
+      (λ (unwritten : IsUnwritten h.conflicts name).
+      let is = described_at h.conflicts q d at in
+      unwritten is.0 d is.1 writes)
+      rest)
+      ((listed.each p order met.running).uses name a first uses)
+
+  pub meets_none : MeetsNone h q
+  meets_none p order met =
+      let c = met.conflict in
+      let same : c.b ≡ d = same_Some c.b d (sym c.second ∙ at) in
+      ⊎_elim {C = ⊥}
+      (λ (one : Writes met.name c.a × Uses h.conflicts met.name c.b).
+      other_writes p met.name c.a order met c.first one.0 (subst (λ (x : Descriptor). Uses h.conflicts met.name x) same one.1))
+      (λ (two : Writes met.name c.b × Uses h.conflicts met.name c.a).
+      this_writes p met.name c.a order met c.first (subst (λ (x : Descriptor). Writes met.name x) same two.0) two.1)
+      c.over.one_writes
+
+-- ---- what stands in the lists
+
+pub keeps_all : (h : Holders) (q : ℕ) (running : Running) → Keeps h q running running
+keeps_all h q running = record { writers = λ n p le has. has; readers = λ n p le has. has; lists = λ have. have }
+
+pub keeps_trans : (h : Holders) (q : ℕ) (a b c : Running) → Keeps h q a b → Keeps h q b c → Keeps h q a c
+keeps_trans h q a b c first second = record {
+  writers = λ n p lt has. second.writers n p lt (first.writers n p lt has);
+  readers = λ n p lt has. second.readers n p lt (first.readers n p lt has);
+  lists = λ have. second.lists (first.lists have);
+}
+
+-- what stands under the number of a lock stays there
+pub listed_kept : (h : Holders) (q : ℕ) (old new : Running) → Keeps h q old new → (k : Lock) (p : ℕ) → q < finish_of h p → LockIsListed h old k p → LockIsListed h new k p
+listed_kept h q old new keeps k p lt = by k.mode
+  where
+    by : (mode : LockMode) → IsListedAs mode (under h old.writers k.name) (under h old.readers k.name) p → IsListedAs mode (under h new.writers k.name) (under h new.readers k.name) p
+    by Read has = keeps.readers _ p lt has
+    by ReadWrite has = keeps.writers _ p lt has
+
+is_kept : (h : Holders) (q : ℕ) (old new : Running) → Keeps h q old new → (p : ℕ) → q < finish_of h p → IsListed h old p → IsListed h new p
+is_kept h q old new keeps p lt is = record {
+  writes = λ name d at writes. keeps.writers _ p lt (is.writes name d at writes);
+  uses = λ name d at uses. ⊎_elim {C = Contains (under h new.writers name) p ⊎ (Contains (under h new.readers name) p ⊎ IsUnwritten h.conflicts name)}
+      (λ (there : Contains (under h old.writers name) p). inl (keeps.writers _ p lt there))
+      (λ (rest : Contains (under h old.readers name) p ⊎ IsUnwritten h.conflicts name). ⊎_elim {C = Contains (under h new.writers name) p ⊎ (Contains (under h new.readers name) p ⊎ IsUnwritten h.conflicts name)}
+      (λ (there : Contains (under h old.readers name) p). inr (inl (keeps.readers _ p lt there)))
+      (λ (unwritten : IsUnwritten h.conflicts name). inr (inr unwritten))
+      rest)
+      (is.uses name d at uses);
+}
+
+-- the execution that starts at q stands under each lock that its descriptor uses
+pub listed_from_locks : (h : Holders) (running : Running) (q : ℕ) (d : Descriptor) → descriptor_at h.conflicts q ≡ Some d →
+    ((k : Lock) → Contains (locks_of d) k → LockIsListed h running k q) →
+    (IsTestWithoutChild h.conflicts d → Contains (under h running.readers global_name) q ⊎ IsUnwritten h.conflicts global_name) →
+    IsListed h running q
+listed_from_locks h running q d at locks global = record {
+  writes = λ name x is writes. locks (lock name ReadWrite) (subst (λ (y : Descriptor). Writes name y) (same x is) writes);
+  uses = λ name x is uses. used name (subst (λ (y : Descriptor). Uses h.conflicts name y) (same x is) uses);
+}
+  where
+    same : (x : Descriptor) → descriptor_at h.conflicts q ≡ Some x → x ≡ d
+    same x is = same_Some x d (sym is ∙ at)
+
+    held : (name : List ℕ) (mode : LockMode) → IsListedAs mode (under h running.writers name) (under h running.readers name) q → Contains (under h running.writers name) q ⊎ (Contains (under h running.readers name) q ⊎ IsUnwritten h.conflicts name)
+    held name Read has = inr (inl has)
+    held name ReadWrite has = inl has
+
+    used : (name : List ℕ) → Uses h.conflicts name d → Contains (under h running.writers name) q ⊎ (Contains (under h running.readers name) q ⊎ IsUnwritten h.conflicts name)
+    used name uses = ⊎_elim {C = Contains (under h running.writers name) q ⊎ (Contains (under h running.readers name) q ⊎ IsUnwritten h.conflicts name)}
+        (λ (holds : Holds name d). held name holds.0 (locks (lock name holds.0) holds.1))
+        (λ (test : (name ≡ global_name) × IsTestWithoutChild h.conflicts d).
+        subst (λ n. Contains (under h running.writers n) q ⊎ (Contains (under h running.readers n) q ⊎ IsUnwritten h.conflicts n)) (sym test.0) (inr (global test.1)))
+        uses
+
+-- one start more
+pub listed_more : (h : Holders) (q : ℕ) (old new : Running) → AreListed h q old → Keeps h q old new → (q < finish_of h q → IsListed h new q) → AreListed h (q + 1) new
+listed_more h q old new are keeps own = record {
+  lists = keeps.lists are.lists;
+  each = λ p lt running. ⊎_elim {C = IsListed h new p}
+      (λ (before : p < q). is_kept h q old new keeps p (omega arith) (are.each p before (omega arith)))
+      (λ (from : q ≤ p). let same : q ≡ p = omega arith in subst (IsListed h new) same (own (subst (λ n. q < finish_of h n) (sym same) (omega arith))))
+      (cases_lt p q);
+}
+
+-- a start of no execution
+pub listed_past : (h : Holders) (q : ℕ) (running : Running) → AreListed h q running → finish_of h q ≡ 0 → AreListed h (q + 1) running
+listed_past h q running are none = listed_more h q running running are (keeps_all h q running) (λ lt. absurd (omega arith))
+
+-- an execution that isn't there meets none
+pub no_start : (h : Holders) (q : ℕ) → finish_of h q ≡ 0 → MeetsNone h q
+no_start h q none p order met = let some = met.finishes in omega arith
+
+pub listed_first : (h : Holders) (running : Running) → HaveLists h running → AreListed h 0 running
+listed_first h running have = record { lists = have; each = λ p lt run. absurd (omega arith) }

@@ -1,0 +1,6 @@
+pub mod Stub
+pub mod Conflicts
+pub mod LockAnswers
+pub mod AnswerTexts
+pub mod Laws
+pub mod steps

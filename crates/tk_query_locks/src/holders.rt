@@ -1,0 +1,187 @@
+//! Executions that conflict over a lock and overlap.
+ghost use Rattle.std.specs.Prelude.{◌≡◌, ◌↔◌, ◌+◌, ℕ, List, IsTrue, IfOk, OnOk, MatchOption, false, get_or, length};
+ghost use Rattle.std.specs.Option.{option_copied};
+ghost use Rattle.std.specs.List.{Contains};
+ghost use Rattle.tk_query_locks.specs.Conflicts.{Uses, Writes};
+ghost use Rattle.tk_query_locks.specs.steps.Positions.{descriptor_at};
+ghost use Rattle.tk_query_locks.specs.steps.Holders.{AreListed, ConflictAt, HaveLists, IsFirstMet, IsLeastAt, IsMeeting, Keeps, LockIsListed, LockMeetsNone, Meet, MeetsNone, finish_of};
+
+use crate::conflicts::{Conflicts, GLOBAL};
+use crate::lock_numbers::LockNumbers;
+use crate::start_lists::StartLists;
+use crate::stub::{Lock, LockMode, locks_of};
+use std::alloc::{AllocError, Global};
+use tk_ids::Descriptor;
+
+/// The starts of executions that may not have finished: those that hold a lock for writing, and the
+/// others that use it, under the lock's number.
+#[derive(Drop)]
+struct Running {
+    writers: StartLists,
+    readers: StartLists,
+}
+
+/// The executions of a record, which may conflict over locks.
+#[derive(Drop)]
+pub(crate) struct Holders<'r> {
+    pub(crate) conflicts: Conflicts<'r>,
+    pub(crate) numbers: LockNumbers,
+    // Under the position of each start that of its finish, and 0 elsewhere.
+    pub(crate) finishes: Vec<usize>,
+}
+
+impl<'r> Holders<'r> {
+    fn finish(&self, start: usize) -> usize
+        ensures { result ≡ finish_of self.now start }
+    {
+        self.finishes.get(start).copied().unwrap_or(0)
+    }
+
+    /// The descriptor of the entry at a position.
+    fn descriptor(&self, position: usize) -> Option<&Descriptor>
+        ensures { option_copied result ≡ descriptor_at self.now.conflicts position }
+    {
+        let record = self.conflicts.record();
+        let key = record.keys().get(position)?;
+        record.describe(*key)
+    }
+
+    /// The least name of a lock over which the descriptors of the entries at two positions
+    /// conflict.
+    pub(crate) fn least_lock(&self, first: usize, second: usize) -> Option<&str>
+        ensures { MatchOption result
+            ((name : List ℕ) → ¬ ConflictAt self.now.conflicts name first second)
+            (λ name. IsLeastAt self.now.conflicts first second name.now) }
+    {
+        let a = self.descriptor(first)?;
+        let b = self.descriptor(second)?;
+        self.conflicts.least_lock(a, b)
+    }
+
+    /// Whether an execution that starts at `first`, and has not finished at `second`, conflicts
+    /// with one that starts at `second`.
+    fn meet(&self, first: usize, second: usize) -> bool
+        ensures { IsTrue result ↔ Meet self.now first second }
+    {
+        second < self.finish(first)
+            && 0 < self.finish(second)
+            && self.least_lock(first, second).is_some()
+    }
+
+    /// Whether one of the executions that start at these positions meets one that starts at
+    /// `second`.
+    fn some_meets(&self, starts: &[usize], second: usize) -> bool
+        ensures { result ≡ false → (p : ℕ) → Contains starts.now p → ¬ Meet self.now p second }
+    {
+        for first in starts {
+            if self.meet(*first, second) {
+                return true;
+            }
+        }
+        false
+    }
+
+    /// The first execution that conflicts with one that starts at `second`, and has not finished
+    /// there.
+    fn first_met(&self, second: usize) -> Option<usize>
+        ensures { MatchOption result (MeetsNone self.now second) (IsFirstMet self.now second) }
+    {
+        for first in 0..second {
+            if self.meet(first, second) {
+                return Some(first);
+            }
+        }
+        None
+    }
+
+    /// Whether an execution in the lists of a lock meets one that starts at `second` and holds it.
+    fn is_lock_held(&self, running: &Running, lock: &Lock, second: usize) -> bool
+        requires { HaveLists self.now running.now }
+        ensures { result ≡ false → LockMeetsNone self.now running.now lock.now second }
+    {
+        let number = self.numbers.number(lock.name.as_str());
+        self.some_meets(running.writers.starts(number), second)
+            || matches!(lock.mode, LockMode::ReadWrite)
+                && self.some_meets(running.readers.starts(number), second)
+    }
+
+    /// Whether an execution that has not finished meets one that starts at `second`.
+    fn is_held(&self, running: &Running, second: usize) -> bool
+        requires { AreListed self.now second running.now }
+        ensures { result ≡ false → MeetsNone self.now second }
+    {
+        let Some(descriptor) = self.descriptor(second) else {
+            return false;
+        };
+        for lock in locks_of(descriptor) {
+            if self.is_lock_held(running, lock, second) {
+                return true;
+            }
+        }
+        self.conflicts.uses_global(descriptor)
+            && self.some_meets(running.writers.starts(self.numbers.number(GLOBAL)), second)
+    }
+
+    /// Adds the execution that starts at `second` to the lists of a lock that it holds.
+    fn take(&self, running: &mut Running, lock: &Lock, second: usize) -> Result<(), AllocError>
+        requires { HaveLists self.now running.old }
+        ensures kept { OnOk result (Keeps self.now second running.old running.new) }
+        ensures added { OnOk result (LockIsListed self.now running.new lock.now second) }
+    {
+        let number = self.numbers.number(lock.name.as_str());
+        running.writers.forget(number, &self.finishes, second);
+        match lock.mode {
+            LockMode::Read => running.readers.push(number, second),
+            LockMode::ReadWrite => {
+                running.readers.forget(number, &self.finishes, second);
+                running.writers.push(number, second)
+            }
+        }
+    }
+
+    /// Adds the execution that starts at `second` to the lists of the locks that it uses.
+    fn start(&self, running: &mut Running, second: usize) -> Result<(), AllocError>
+        requires { AreListed self.now second running.old }
+        ensures { OnOk result (AreListed self.now (second + 1) running.new) }
+    {
+        let Some(descriptor) = self.descriptor(second) else {
+            return Ok(());
+        };
+        for lock in locks_of(descriptor) {
+            self.take(running, lock, second)?;
+        }
+        if self.conflicts.uses_global(descriptor) {
+            running.readers.push(self.numbers.number(GLOBAL), second)?;
+        }
+        Ok(())
+    }
+
+    fn none_running(&self, alloc: Global) -> Result<Running, AllocError>
+        ensures { IfOk result (λ running. HaveLists self.now running) }
+    {
+        Ok(Running {
+            writers: StartLists::new(alloc, self.numbers.bound())?,
+            readers: StartLists::new(alloc, self.numbers.bound())?,
+        })
+    }
+
+    /// Goes over the starts in their order, up to the first that conflicts with an execution that
+    /// has not finished.
+    pub(crate) fn first_meeting(&self, alloc: Global) -> Result<Option<(usize, usize)>, AllocError>
+        ensures { IfOk result (IsMeeting self.now) }
+    {
+        let mut running = self.none_running(alloc)?;
+        for second in 0..self.finishes.len() {
+            if self.finishes[second] == 0 {
+                continue;
+            }
+            if self.is_held(&running, second) {
+                if let Some(first) = self.first_met(second) {
+                    return Ok(Some((first, second)));
+                }
+            }
+            self.start(&mut running, second)?;
+        }
+        Ok(None)
+    }
+}

@@ -1,0 +1,47 @@
+//! Whether executions that conflict over a lock kept away from each other.
+ghost use Rattle.std.specs.Prelude.{IfOk};
+ghost use Rattle.tk_query_locks.specs.LockAnswers.{IsLockAnswer};
+
+use crate::answers::LockAnswer;
+use crate::conflicts::Conflicts;
+use crate::finishes::endless;
+use crate::holders::Holders;
+use crate::lock_numbers::LockNumbers;
+use std::alloc::{AllocError, Global};
+use tk_ids::Text;
+use tk_query::finishes_of;
+use tk_record::Events;
+
+/// Whether executions that conflict over a lock kept away from each other; `NoPair` where none
+/// conflict.
+///
+/// Two executions conflict over a lock that both of their descriptors hold, one of them for writing,
+/// unless the id of one begins with the other's segments. An execution whose descriptor holds the
+/// lock `global` for writing also conflicts, over it, with each test of which no descriptor is a
+/// child. Two executions overlap where each starts before the other finishes. Skips are left out,
+/// and starts that have no finish.
+///
+/// # Errors
+/// `AllocError` where a request for memory is refused.
+pub fn locks(alloc: Global, events: &Events) -> Result<LockAnswer, AllocError>
+    ensures { IfOk result (IsLockAnswer events.now) }
+{
+    // For the proof: no event stands past the end of the record.
+    let _flags = events.flags();
+    let record = events.record();
+    let mut holders = Holders {
+        conflicts: Conflicts::of(alloc, record)?,
+        numbers: LockNumbers::of(alloc, record.table())?,
+        finishes: finishes_of(alloc, events)?,
+    };
+    if let Some((first, second)) = holders.first_meeting(alloc)? {
+        if let Some(name) = holders.least_lock(first, second) {
+            return Ok(LockAnswer::No(first, second, Text::copy(alloc, name)?));
+        }
+    }
+    holders.finishes = endless(alloc, record, &holders.finishes)?;
+    match holders.first_meeting(alloc)? {
+        Some(_) => Ok(LockAnswer::Yes),
+        None => Ok(LockAnswer::NoPair),
+    }
+}
