@@ -30,7 +30,7 @@ one_answer asked (No p q name) (No i j other) h k =
     let right : i ≤ p = k.least_first name p (omega arith) here in
     let first : p ≡ i = omega arith in
     let same : name ≡ other =
-        neither_before name other
-        (k.least_name name (subst (λ n. CollideAt asked name n j) first here))
-        (h.least_name other (subst (λ n. CollideAt asked other n q) (sym first) there)) in
+    neither_before name other
+    (k.least_name name (subst (λ n. CollideAt asked name n j) first here))
+    (h.least_name other (subst (λ n. CollideAt asked other n q) (sym first) there)) in
     ap (λ n. No n q name) first ∙ ap (λ n. No i n name) second ∙ ap (λ n. No i j n) same

@@ -1,47 +1,62 @@
 -- Whether two descriptors conflict over a lock.
-use Rattle.std.proofs.Common.{◌≡◌, ℕ, Bool, true, false, ◌&&◌, ◌||◌, ◌⊎◌, inl, inr, ⊎_elim, List, ◌∷◌, Option, Some, None, refl, sym, ap, ◌∙◌, subst}
-use Rattle.std.specs.Prelude.{◌↔◌, IsTrue}
-use Rattle.std.proofs.lemmas.Bool.{true≢false, and_parts, and_from, or_cases, or_left, or_right}
+use Rattle.std.proofs.Common.{◌≡◌, ℕ, ◌<◌, Bool, true, false, not, ◌⊎◌, inl, inr, ⊎_elim, List, length, get_or, Option, Some, None, Bor, refl, sym, ◌∙◌, subst}
+use Rattle.std.specs.Prelude.{◌↔◌, IsTrue, IfSome, MatchOption}
+use Rattle.std.specs.List.{Contains}
+use Rattle.std.proofs.lemmas.Bool.{true≢false}
 use Rattle.tk_ids.specs.declared.descriptors.Descriptor.{Descriptor}
 use Rattle.tk_record.specs.Recorded.{Recorded}
-use Rattle.tk_query_locks.specs.Conflicts.{AreApart, ConflictOver, Uses, Writes}
-use Rattle.tk_query_locks.specs.steps.Conflicts.{IsDescribed}
+use Rattle.tk_query_locks.specs.Stub.{locks_of}
+use Rattle.tk_query_locks.specs.declared.stub.LockMode.TheVariants.{ReadWrite}
+use Rattle.tk_query_locks.specs.declared.stub.Lock.{Lock}
+use Rattle.tk_query_locks.specs.Conflicts.{AreApart, ConflictOver, Holds, IsTestWithoutChild, Uses, Writes, global_name, lock}
+use Rattle.tk_query_locks.specs.steps.Conflicts.{IsAtMost, IsDescribed, IsLeastLock}
 use Rattle.tk_query_locks.specs.steps.Parents.{IsUnwritten}
 
--- what a test of uses says
-pub record TellsUses (r : Recorded) (name : List ℕ) (d : Descriptor) (told : Bool) : Type 0 where
-  pub yes : told ≡ true → Uses r name d
-  pub no : told ≡ false → Uses r name d → IsUnwritten r name
+-- what is used beside a writer is told
+pub used_told : (r : Recorded) (name : List ℕ) (writer other : Descriptor) (told : Bool) → IsDescribed r writer → Writes name writer →
+    (told ≡ false → Uses r name other → IsUnwritten r name) → Uses r name other → told ≡ true
+used_told r name writer other true is writes never uses = refl
+used_told r name writer other false is writes never uses =
+    absurd (never refl uses is.0 writer is.1 writes)
 
-module _ (r : Recorded) (name : List ℕ) (a b : Descriptor) (apart : AreApart a.id b.id) where
+module _ (r : Recorded) (name : List ℕ) (a b : Descriptor) where
   -- one holds the lock for writing, and the other uses it
-  pub conflict_from : Writes name a → Uses r name b → ConflictOver r name a b
-  conflict_from writes uses = record { apart = apart; one_writes = inl (writes, uses) }
+  pub conflict_from : AreApart a.id b.id → Writes name a → Uses r name b → ConflictOver r name a b
+  conflict_from apart writes uses = record { apart = apart; one_writes = inl (writes, uses) }
 
-  pub conflict_back : Writes name b → Uses r name a → ConflictOver r name a b
-  conflict_back writes uses = record { apart = apart; one_writes = inr (writes, uses) }
+  pub conflict_back : AreApart a.id b.id → Writes name b → Uses r name a → ConflictOver r name a b
+  conflict_back apart writes uses = record { apart = apart; one_writes = inr (writes, uses) }
 
-  -- the first holds it for writing, and the second uses it, or the other way round
-  pub one_way : (first_is : IsDescribed r a) (second_is : IsDescribed r b) (writes_a uses_b writes_b uses_a : Bool) →
-      (IsTrue writes_a ↔ Writes name a) → TellsUses r name b uses_b →
-      (IsTrue writes_b ↔ Writes name b) → TellsUses r name a uses_a →
-      IsTrue ((writes_a && uses_b) || (writes_b && uses_a)) ↔ ConflictOver r name a b
-  one_way first_is second_is wa ub wb ua a_writes b_uses b_writes a_uses = (yes, no)
+  pub first_or_second : (first second : Bool) → (IsTrue first ↔ (Writes name a × Uses r name b)) → (IsTrue second ↔ (Writes name b × Uses r name a)) →
+      first ≡ false → ConflictOver r name a b → second ≡ true
+  first_or_second first second one two none over = ⊎_elim {C = second ≡ true}
+      (λ (is : Writes name a × Uses r name b). absurd (true≢false (sym (one.1 is) ∙ none)))
+      (λ (is : Writes name b × Uses r name a). two.1 is)
+      over.one_writes
+
+-- ---- the least lock
+
+-- a place in a list where something stands
+pub at_place : {A : Type 0} (P : A → Type 0) (xs : List A) (x : A) → ((i : ℕ) (d : A) → i < length xs → P (get_or xs i d)) → Contains xs x → P x
+at_place P xs x each has = subst P has.2 (each has.0 x has.1)
+
+module _ (r : Recorded) (a b : Descriptor) (least : Option (Bor (List ℕ)))
+    (each : (k : Lock) → Contains (locks_of a) k → ConflictOver r k.name a b → IsAtMost least k.name)
+    (global : ConflictOver r global_name a b → IsAtMost least global_name) where
+  at_most_all : (name : List ℕ) → ConflictOver r name a b → IsAtMost least name
+  at_most_all name over = ⊎_elim {C = IsAtMost least name}
+      (λ (one : Writes name a × Uses r name b). each (lock name ReadWrite) one.0 over)
+      (λ (two : Writes name b × Uses r name a). ⊎_elim {C = IsAtMost least name}
+      (λ (holds : Holds name a). each (lock name holds.0) holds.1 over)
+      (λ (test : (name ≡ global_name) × IsTestWithoutChild r a).
+      subst (IsAtMost least) (sym test.0) (global (subst (λ n. ConflictOver r n a b) test.0 over)))
+      two.1)
+      over.one_writes
+
+  pub least_found : IfSome least (λ l. ConflictOver r l.now a b) → MatchOption least ((name : List ℕ) → ¬ ConflictOver r name a b) (λ name. IsLeastLock r a b name.now)
+  least_found over = by least over at_most_all
     where
-      yes : IsTrue ((wa && ub) || (wb && ua)) → ConflictOver r name a b
-      yes is = ⊎_elim {C = ConflictOver r name a b}
-          (λ (one : (wa && ub) ≡ true). let p = and_parts wa ub one in conflict_from (a_writes.0 p.0) (b_uses.yes p.1))
-          (λ (two : (wb && ua) ≡ true). let p = and_parts wb ua two in conflict_back (b_writes.0 p.0) (a_uses.yes p.1))
-          (or_cases (wa && ub) (wb && ua) is)
-
-      used : (d : Descriptor) (told : Bool) → TellsUses r name d told → Uses r name d → ¬ IsUnwritten r name → told ≡ true
-      used d true tells uses written = refl
-      used d false tells uses written = absurd (written (tells.no refl uses))
-
-      no : ConflictOver r name a b → IsTrue ((wa && ub) || (wb && ua))
-      no over = ⊎_elim {C = ((wa && ub) || (wb && ua)) ≡ true}
-          (λ (one : Writes name a × Uses r name b). or_left (wa && ub) (wb && ua)
-          (and_from wa ub (a_writes.1 one.0) (used b ub b_uses one.1 (λ none. none first_is.0 a first_is.1 one.0))))
-          (λ (two : Writes name b × Uses r name a). or_right (wa && ub) (wb && ua)
-          (and_from wb ua (b_writes.1 two.0) (used a ua a_uses two.1 (λ none. none second_is.0 b second_is.1 two.0))))
-          over.one_writes
+      by : (o : Option (Bor (List ℕ))) → IfSome o (λ l. ConflictOver r l.now a b) → ((name : List ℕ) → ConflictOver r name a b → IsAtMost o name) →
+          MatchOption o ((name : List ℕ) → ¬ ConflictOver r name a b) (λ name. IsLeastLock r a b name.now)
+      by None over all = λ name conflict. all name conflict
+      by (Some l) over all = record { over = over; least = all }

@@ -1,17 +1,19 @@
 -- Ids that are apart by descent.
-use Rattle.std.proofs.Common.{◌≡◌, List, [], ◌∷◌, ◌++◌, ◌⊎◌, inl, inr, ⊎_elim, refl, sym, ap, ◌∙◌, subst}
-use Rattle.std.proofs.lemmas.List.{append_nil}
+use Rattle.std.proofs.Common.{◌≡◌, Bool, true, false, not, List, [], ◌∷◌, ◌++◌, ◌⊎◌, inl, inr, ⊎_elim, refl, sym, ap, ◌∙◌, subst}
+use Rattle.std.specs.Prelude.{◌↔◌, IsTrue}
+use Rattle.std.proofs.lemmas.Bool.{false≢true}
+use Rattle.std.proofs.lemmas.List.{append-nil}
 use Rattle.tk_ids.specs.IdText.{SegmentView, IsBelow, IsId, id_text}
 use Rattle.tk_ids.proofs.ReadingLemmas.{text_is_unique}
 use Rattle.tk_query_locks.specs.Conflicts.{AreApart, BeginsWith}
 
 -- an id that begins with another is that one, or stands below it
 begins_cases : (above id : List SegmentView) → BeginsWith above id → (id ≡ above) ⊎ IsBelow above id
-begins_cases above id ([], e) = inl (e ∙ append_nil above)
+begins_cases above id ([], e) = inl (e ∙ append-nil above)
 begins_cases above id (s ∷ more, e) = inr (s, more, e)
 
 pub itself_begins : (a b : List SegmentView) → a ≡ b → BeginsWith a b
-itself_begins a b e = ([], sym e ∙ sym (append_nil a))
+itself_begins a b e = ([], sym e ∙ sym (append-nil a))
 
 pub below_begins : (a b : List SegmentView) → IsBelow a b → BeginsWith a b
 below_begins a b (s, more, e) = (s ∷ more, e)
@@ -35,3 +37,12 @@ not_apart_itself a b same apart = apart.not_below (itself_begins a b same)
 
 pub apart_swap : (a b : List SegmentView) → AreApart a b → AreApart b a
 apart_swap a b apart = record { not_below = apart.not_above; not_above = apart.not_below }
+
+-- what is told of a fact
+pub told_not : {P : Type 0} (told : Bool) → (IsTrue told ↔ P) → not told ≡ true → ¬ P
+told_not true tells e p = false≢true e
+told_not false tells e p = false≢true (tells.1 p)
+
+pub not_told : {P : Type 0} (told : Bool) → (IsTrue told ↔ P) → ¬ P → not told ≡ true
+not_told true tells none = absurd (none (tells.0 refl))
+not_told false tells none = refl

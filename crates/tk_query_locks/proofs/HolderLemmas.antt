@@ -36,7 +36,6 @@ pub record TellsGlobal (r : Recorded) (d : Descriptor) (told : Bool) : Type 0 wh
 module _ (h : Holders) (running : Running) (q : ℕ) (d : Descriptor) (at : descriptor_at h.conflicts q ≡ Some d) (listed : AreListed h q running)
     (locks_none : (k : Lock) → Contains (locks_of d) k → LockMeetsNone h running k q)
     (global_none : IsTestWithoutChild h.conflicts d → ((p : ℕ) → Contains (under h running.writers global_name) p → ¬ Meet h p q) ⊎ IsUnwritten h.conflicts global_name) where
-
   -- the other holds the lock for writing
   other_writes : (p : ℕ) (name : List ℕ) (a : Descriptor) → p < q → Meet h p q → descriptor_at h.conflicts p ≡ Some a → Writes name a → Uses h.conflicts name d → ⊥
   other_writes p name a order met first writes uses =

@@ -1,8 +1,9 @@
 -- The descriptors that have a child, and the texts of their ids.
-use Rattle.std.proofs.Common.{◌≡◌, ℕ, zero, suc, ◌+◌, ◌-◌, ◌<◌, ◌≤◌, ◌⊎◌, inl, inr, ⊎_elim, Bool, true, false, ◌&&◌, List, [], ◌∷◌, ◌++◌, length, take, get_or, Option, Some, None, nat_eq, refl, sym, ap, ◌∙◌, subst, arith, eqb-true}
+use Rattle.std.proofs.Common.{◌≡◌, ℕ, zero, suc, ◌+◌, ◌-◌, ◌<◌, ◌≤◌, ◌⊎◌, inl, inr, ⊎_elim, Bool, true, false, cond, ◌&&◌, List, [], ◌∷◌, ◌++◌, length, take, get_or, Option, Some, None, nat_eq, refl, sym, ap, ◌∙◌, subst, arith, eqb-true}
 use Rattle.std.specs.Prelude.{◌==◌, if◌then◌else◌, slice_get}
 use Rattle.std.specs.Option.{option_or}
-use Rattle.std.proofs.lemmas.Bool.{true≢false}
+use Rattle.std.specs.Cmp.Lexicographic.{bytes_decides, pointwise}
+use Rattle.std.proofs.lemmas.Bool.{cases_lt, true≢false}
 use Rattle.std.proofs.lemmas.List.{take_more, take_all, take_at, length-append}
 use Rattle.std.proofs.lemmas.Option.{same_Some, none-some}
 use Rattle.tk_ids.specs.IdText.{SegmentView, IsId, id_text, parent_of}
@@ -12,9 +13,11 @@ use Rattle.tk_events.specs.declared.kinds.Kind.TheVariants.{Dynamic}
 use Rattle.tk_events.specs.declared.events.Entry.{Entry}
 use Rattle.tk_record.specs.Entries.{of_kind, described, registered, desc_in, desc}
 use Rattle.tk_record.specs.Recorded.{Recorded}
-use Rattle.tk_query_locks.specs.Conflicts.{HasChild}
+use Rattle.tk_record.specs.Record.{IsRecord}
+use Rattle.tk_query_locks.specs.Stub.{locks_of}
+use Rattle.tk_query_locks.specs.Conflicts.{HasChild, Writes}
 use Rattle.tk_query_locks.specs.declared.parents.Parents.{Parents}
-use Rattle.tk_query_locks.specs.steps.Parents.{AreParents, HasChildUnder, HasParentOf, IsParentText, has_text}
+use Rattle.tk_query_locks.specs.steps.Parents.{AreParents, AreParentsOnly, HasChildUnder, HasParentOf, IsParentText, IsUnwritten, has_text}
 
 -- an entry registers the descriptor under the key
 pub record IsRegistered (es : List Entry) (key : ℕ) (d : Descriptor) : Type 0 where
@@ -50,11 +53,13 @@ registered_later e es key d r = record {
 -- what has a registered descriptor is registered by an entry
 pub registered_by : (es : List Entry) (key : ℕ) (d : Descriptor) → desc_in es key ≡ Some d → IsRegistered es key d
 registered_by [] key d is = absurd (none-some d is)
-registered_by (e ∷ es) key d is = by (registered key e) refl is
+registered_by (e ∷ es) key d is = by (registered key e) refl is (registered_by es key d)
   where
-    by : (o : Option Descriptor) → registered key e ≡ o → option_or o (desc_in es key) ≡ Some d → IsRegistered (e ∷ es) key d
-    by (Some x) here some = registered_here e es key d (of_kind Dynamic e) (e.event.key == key) refl refl (here ∙ some)
-    by None here some = registered_later e es key d (registered_by es key d some)
+    by : (o : Option Descriptor) → registered key e ≡ o → option_or o (desc_in es key) ≡ Some d →
+        (desc_in es key ≡ Some d → IsRegistered es key d) → IsRegistered (e ∷ es) key d
+    by (Some x) here some later =
+        registered_here e es key d (of_kind Dynamic e) (e.event.key == key) refl refl (here ∙ some)
+    by None here some later = registered_later e es key d (later some)
 
 -- a key's descriptor is static, or registered by an entry
 pub static_or_registered : (r : Recorded) (key : ℕ) (d : Descriptor) → desc r key ≡ Some d → (slice_get r.table key ≡ Some d) ⊎ IsRegistered r.entries key d
@@ -106,3 +111,93 @@ module _ (r : Recorded) (parents : Parents) (are : AreParents r parents) (id : L
         id = subst IsId (sym above) is_id;
         spells = ap id_text (sym above);
       })
+
+-- one text more, that of a parent
+pub only_more : (r : Recorded) (old new : Parents) (key : ℕ) (d : Descriptor) (value : List ℕ) → AreParentsOnly r old → desc r key ≡ Some d → IsParentText value d →
+    ((text : List ℕ) → has_text new text ≡ cond (pointwise nat_eq value text) true (has_text old text)) → AreParentsOnly r new
+only_more r old new key d value only described is updates text has = by (pointwise nat_eq value text) refl (sym (updates text) ∙ has)
+  where
+    by : (b : Bool) → pointwise nat_eq value text ≡ b → cond b true (has_text old text) ≡ true → HasChildUnder r text
+    by true same e = record {
+      key = key;
+      child = d;
+      described = described;
+      parent = subst (λ t. IsParentText t d) ((bytes_decides value text).0 same) is;
+    }
+    by false other e = only text e
+
+-- what has its text keeps it
+pub parent_kept : (r : Recorded) (old new : Parents) (key : ℕ) → ((text : List ℕ) → has_text old text ≡ true → has_text new text ≡ true) → HasParentOf r old key → HasParentOf r new key
+parent_kept r old new key kept has text d described is = kept text (has text d described is)
+
+-- the texts of the parents of the static descriptors before a key
+pub record AreStatics (r : Recorded) (parents : Parents) (before : ℕ) : Type 0 where
+  pub only : AreParentsOnly r parents
+  pub each : (key : ℕ) → key < before → HasParentOf r parents key
+
+-- the texts of the parents of the static descriptors, and of those that entries before a position
+-- register
+pub record AreRegistered (r : Recorded) (parents : Parents) (before : ℕ) : Type 0 where
+  pub only : AreParentsOnly r parents
+  pub statics : (key : ℕ) → key < length r.table → HasParentOf r parents key
+  pub each : (i : ℕ) (e : Entry) → i < before → slice_get r.entries i ≡ Some e → of_kind Dynamic e ≡ true → HasParentOf r parents e.event.key
+
+pub statics_more : (r : Recorded) (old new : Parents) (key : ℕ) → AreStatics r old key → AreParentsOnly r new →
+    ((text : List ℕ) → has_text old text ≡ true → has_text new text ≡ true) → HasParentOf r new key → AreStatics r new (key + 1)
+statics_more r old new key are only kept own = record {
+  only = only;
+  each = λ k lt. ⊎_elim {C = HasParentOf r new k}
+      (λ (before : k < key). parent_kept r old new k kept (are.each k before))
+      (λ (from : key ≤ k). let same : key ≡ k = omega arith in subst (HasParentOf r new) same own)
+      (cases_lt k key);
+}
+
+pub registered_first : (r : Recorded) (parents : Parents) (count : ℕ) → AreStatics r parents count → length r.table ≤ count → AreRegistered r parents 0
+registered_first r parents count are all = record {
+  only = are.only;
+  statics = λ key lt. are.each key (omega arith);
+  each = λ i e lt at dynamic. absurd (omega arith);
+}
+
+pub registered_more : (r : Recorded) (old new : Parents) (position : ℕ) → AreRegistered r old position → AreParentsOnly r new →
+    ((text : List ℕ) → has_text old text ≡ true → has_text new text ≡ true) →
+    ((e : Entry) → slice_get r.entries position ≡ Some e → of_kind Dynamic e ≡ true → HasParentOf r new e.event.key) → AreRegistered r new (position + 1)
+registered_more r old new position are only kept own = record {
+  only = only;
+  statics = λ key lt. parent_kept r old new key kept (are.statics key lt);
+  each = λ i e lt at dynamic. ⊎_elim {C = HasParentOf r new e.event.key}
+      (λ (before : i < position). parent_kept r old new e.event.key kept (are.each i e before at dynamic))
+      (λ (from : position ≤ i). let same : i ≡ position = omega arith in own e (subst (λ n. slice_get r.entries n ≡ Some e) same at) dynamic)
+      (cases_lt i position);
+}
+
+pub parents_all : (r : Recorded) (parents : Parents) (count : ℕ) → AreRegistered r parents count → length r.entries ≤ count → AreParents r parents
+parents_all r parents count are all = record {
+  only = are.only;
+  each = λ key text d described is. ⊎_elim {C = has_text parents text ≡ true}
+      (λ (static : slice_get r.table key ≡ Some d). are.statics key (place_within r.table key d static) text d described is)
+      (λ (by : IsRegistered r.entries key d).
+      let lt = place_within r.entries by.position by.entry by.stands in
+      let of_key = by.of_key in
+      subst (HasParentOf r parents) of_key (are.each by.position by.entry (omega arith) by.stands by.dynamic) text d described is)
+      (static_or_registered r key d described);
+}
+
+-- a descriptor that an entry registers has no locks
+no_locks : (r : Recorded) (key : ℕ) (d : Descriptor) → IsRecord r → IsRegistered r.entries key d → locks_of d ≡ []
+unfolding locks_of
+no_locks r key d is by = refl
+
+none_written : (name : List ℕ) (d : Descriptor) → locks_of d ≡ [] → ¬ Writes name d
+none_written name d none has = absurd (let lt = has.1 in let size = ap length none in omega (arith, lt, size))
+
+-- where no static descriptor holds a lock for writing, none does
+pub unwritten : (r : Recorded) (name : List ℕ) (count : ℕ) → IsRecord r →
+    ((key : ℕ) (d : Descriptor) → key < count → desc r key ≡ Some d → ¬ Writes name d) →
+    length r.table ≤ count → IsUnwritten r name
+unwritten r name count is none all key d described = ⊎_elim {C = ¬ Writes name d}
+    (λ (static : slice_get r.table key ≡ Some d).
+    let within = place_within r.table key d static in
+    none key d (omega arith) described)
+    (λ (by : IsRegistered r.entries key d). none_written name d (no_locks r key d is by))
+    (static_or_registered r key d described)

@@ -47,9 +47,11 @@ fn is_written(record: &Record, name: &str) -> bool
 {
     // For the proof: a descriptor that an event registers has no locks.
     record.shows_record();
-    for descriptor in record.table().iter() {
-        if writes(descriptor, name) {
-            return true;
+    for key in 0..record.table().len() {
+        if let Some(descriptor) = record.describe(key as u32) {
+            if writes(descriptor, name) {
+                return true;
+            }
         }
     }
     false
@@ -115,6 +117,17 @@ impl<'r> Conflicts<'r> {
         holds(descriptor, name) || name == GLOBAL && self.uses_global(descriptor)
     }
 
+    /// Whether the first descriptor holds the lock of this name for writing, and the other uses it.
+    fn writes_beside(&self, writer: &Descriptor, other: &Descriptor, name: &str) -> bool
+        requires { IsDescribed self.now writer.now }
+        ensures { IsTrue result ↔ (Writes name.now writer.now × Uses self.now name.now other.now) }
+    {
+        if !writes(writer, name) {
+            return false;
+        }
+        self.uses(other, name)
+    }
+
     /// Whether two descriptors that are apart by descent conflict over the lock of this name.
     fn conflict_over(&self, a: &Descriptor, b: &Descriptor, name: &str) -> bool
         requires first { IsDescribed self.now a.now }
@@ -122,7 +135,10 @@ impl<'r> Conflicts<'r> {
         requires apart { AreApart a.now.id b.now.id }
         ensures { IsTrue result ↔ ConflictOver self.now name.now a.now b.now }
     {
-        writes(a, name) && self.uses(b, name) || writes(b, name) && self.uses(a, name)
+        if self.writes_beside(a, b, name) {
+            return true;
+        }
+        self.writes_beside(b, a, name)
     }
 
     /// The least of the names so far and another, where two descriptors that are apart by descent
@@ -139,16 +155,16 @@ impl<'r> Conflicts<'r> {
         requires apart { AreApart a.now.id b.now.id }
         requires over { IfSome least (λ l. ConflictOver self.now l.now a.now b.now) }
         ensures over { IfSome result (λ l. ConflictOver self.now l.now a.now b.now) }
-        ensures kept { (other : List ℕ) → IsAtMost least other → IsAtMost result other }
+        ensures kept { (other : List ℕ) → IsAtMost least.entry other → IsAtMost result other }
         ensures taken { ConflictOver self.now name.now a.now b.now → IsAtMost result name.now }
     {
         if !self.conflict_over(a, b, name) {
             return least;
         }
-        match least {
-            Some(other) if !(name < other) => least,
-            _ => Some(name),
-        }
+        let Some(other) = least else {
+            return Some(name);
+        };
+        if name < other { Some(name) } else { least }
     }
 
     /// The least name of a lock over which two descriptors of the record conflict.

@@ -8,5 +8,11 @@ use tk_ids::UniqueId;
 pub(crate) fn are_apart(a: &UniqueId, b: &UniqueId) -> bool
     ensures { IsTrue result ↔ AreApart a.now b.now }
 {
-    a.as_text() != b.as_text() && !a.is_below(b) && !b.is_below(a)
+    if a.as_text() == b.as_text() {
+        return false;
+    }
+    if a.is_below(b) {
+        return false;
+    }
+    !b.is_below(a)
 }

@@ -63,9 +63,13 @@ impl<'r> Holders<'r> {
     fn meet(&self, first: usize, second: usize) -> bool
         ensures { IsTrue result ↔ Meet self.now first second }
     {
-        second < self.finish(first)
-            && 0 < self.finish(second)
-            && self.least_lock(first, second).is_some()
+        if self.finish(first) <= second {
+            return false;
+        }
+        if self.finish(second) == 0 {
+            return false;
+        }
+        self.least_lock(first, second).is_some()
     }
 
     /// Whether one of the executions that start at these positions meets one that starts at
@@ -100,9 +104,13 @@ impl<'r> Holders<'r> {
         ensures { result ≡ false → LockMeetsNone self.now running.now lock.now second }
     {
         let number = self.numbers.number(lock.name.as_str());
-        self.some_meets(running.writers.starts(number), second)
-            || matches!(lock.mode, LockMode::ReadWrite)
-                && self.some_meets(running.readers.starts(number), second)
+        if self.some_meets(running.writers.starts(number), second) {
+            return true;
+        }
+        match lock.mode {
+            LockMode::Read => false,
+            LockMode::ReadWrite => self.some_meets(running.readers.starts(number), second),
+        }
     }
 
     /// Whether an execution that has not finished meets one that starts at `second`.
@@ -118,8 +126,10 @@ impl<'r> Holders<'r> {
                 return true;
             }
         }
-        self.conflicts.uses_global(descriptor)
-            && self.some_meets(running.writers.starts(self.numbers.number(GLOBAL)), second)
+        if !self.conflicts.uses_global(descriptor) {
+            return false;
+        }
+        self.some_meets(running.writers.starts(self.numbers.number(GLOBAL)), second)
     }
 
     /// Adds the execution that starts at `second` to the lists of a lock that it holds.
