@@ -1,8 +1,9 @@
 -- Whether two descriptors conflict over a lock.
-use Rattle.std.proofs.Common.{◌≡◌, ℕ, ◌<◌, Bool, true, false, not, ◌⊎◌, inl, inr, ⊎_elim, List, length, get_or, Option, Some, None, Bor, refl, sym, ◌∙◌, subst}
+use Rattle.std.proofs.Common.{◌≡◌, ℕ, ◌+◌, ◌<◌, ◌≤◌, arith, Bool, true, false, ◌⊎◌, inl, inr, ⊎_elim, List, length, get_or, Option, Some, None, Bor, refl, sym, ◌∙◌, subst}
 use Rattle.std.specs.Prelude.{◌↔◌, IsTrue, IfSome, MatchOption}
 use Rattle.std.specs.List.{Contains}
-use Rattle.std.proofs.lemmas.Bool.{true≢false}
+use Rattle.std.proofs.lemmas.Bool.{cases_lt, true≢false}
+use Rattle.std.proofs.lemmas.List.{get_or_default}
 use Rattle.tk_ids.specs.declared.descriptors.Descriptor.{Descriptor}
 use Rattle.tk_record.specs.Recorded.{Recorded}
 use Rattle.tk_query_locks.specs.Stub.{locks_of}
@@ -60,3 +61,16 @@ module _ (r : Recorded) (a b : Descriptor) (least : Option (Bor (List ℕ)))
           MatchOption o ((name : List ℕ) → ¬ ConflictOver r name a b) (λ name. IsLeastLock r a b name.now)
       by None over all = λ name conflict. all name conflict
       by (Some l) over all = record { over = over; least = all }
+
+-- one place more
+pub each_more :
+    {A : Type 0} (P : A → Type 0) (xs : List A) (count : ℕ) (x : A) →
+    x ≡ get_or xs count x → count < length xs →
+    ((i : ℕ) (d : A) → i < count → P (get_or xs i d)) → P x →
+    (i : ℕ) (d : A) → i < count + 1 → P (get_or xs i d)
+each_more P xs count x is within each own i d lt = ⊎_elim {C = P (get_or xs i d)}
+    (λ (before : i < count). each i d before)
+    (λ (from : count ≤ i).
+    let same : count ≡ i = omega arith in
+    subst (λ n. P (get_or xs n d)) same (subst P (is ∙ get_or_default xs count x d within) own))
+    (cases_lt i count)

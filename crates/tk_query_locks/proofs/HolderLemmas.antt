@@ -1,8 +1,10 @@
 -- The executions in the lists, and those that an execution meets.
-use Rattle.std.proofs.Common.{◌≡◌, ℕ, zero, suc, ◌+◌, ◌<◌, ◌≤◌, Bool, true, false, ◌⊎◌, inl, inr, ⊎_elim, List, [], ◌∷◌, get_or, length, Option, Some, None, refl, sym, ap, ◌∙◌, subst, arith}
+use Rattle.std.proofs.Common.{◌≡◌, ℕ, zero, suc, ◌+◌, ◌<◌, ◌≤◌, Bool, true, false, ◌⊎◌, inl, inr, ⊎_elim, List, [], ◌∷◌, get_or, length, Option, Some, None, Bor, refl, sym, ap, ◌∙◌, subst, arith}
+use Rattle.std.specs.Prelude.{◌↔◌, IsTrue, MatchOption, is_some}
 use Rattle.std.specs.List.{Contains}
 use Rattle.std.specs.Option.{option_and_then}
-use Rattle.std.proofs.lemmas.Bool.{cases_lt, true≢false}
+use Rattle.std.proofs.lemmas.Bool.{cases_lt, false≢true}
+use Rattle.std.proofs.lemmas.List.{get_or_default}
 use Rattle.std.proofs.lemmas.Option.{same_Some, none-some}
 use Rattle.tk_ids.specs.declared.descriptors.Descriptor.{Descriptor}
 use Rattle.tk_record.specs.Entries.{desc}
@@ -14,10 +16,11 @@ use Rattle.tk_query_locks.specs.declared.stub.Lock.{Lock}
 use Rattle.tk_query_locks.specs.Conflicts.{ConflictOver, Holds, IsTestWithoutChild, Uses, Writes, global_name, lock}
 use Rattle.tk_query_locks.specs.declared.holders.Holders.{Holders}
 use Rattle.tk_query_locks.specs.declared.holders.Running.{Running}
-use Rattle.tk_query_locks.specs.steps.Conflicts.{IsDescribed}
+use Rattle.tk_query_locks.specs.steps.Conflicts.{IsDescribed, IsLeastLock}
 use Rattle.tk_query_locks.specs.steps.Parents.{IsUnwritten}
+use Rattle.tk_query_locks.proofs.ConflictLemmas.{at_place}
 use Rattle.tk_query_locks.specs.steps.Positions.{descriptor_at, key_at}
-use Rattle.tk_query_locks.specs.steps.Holders.{AreListed, HaveLists, IsListed, IsListedAs, Keeps, LockIsListed, LockMeetsNone, Meet, MeetsNone, finish_of, under}
+use Rattle.tk_query_locks.specs.steps.Holders.{AreListed, ConflictAt, HaveLists, IsLeastAt, IsListed, IsListedAs, Keeps, LockIsListed, LockMeetsNone, Meet, MeetsNone, finish_of, under}
 
 -- the descriptor of an entry is one of the record
 pub described_at : (r : Recorded) (p : ℕ) (d : Descriptor) → descriptor_at r p ≡ Some d → IsDescribed r d
@@ -28,10 +31,6 @@ described_at r p d is = by (key_at r p) is
     by (Some key) some = (key, some)
 
 -- ---- whom an execution meets
-
--- what a test says of a descriptor's use of `global`
-pub record TellsGlobal (r : Recorded) (d : Descriptor) (told : Bool) : Type 0 where
-  pub no : told ≡ false → IsTestWithoutChild r d → IsUnwritten r global_name
 
 module _ (h : Holders) (running : Running) (q : ℕ) (d : Descriptor) (at : descriptor_at h.conflicts q ≡ Some d) (listed : AreListed h q running)
     (locks_none : (k : Lock) → Contains (locks_of d) k → LockMeetsNone h running k q)
@@ -152,3 +151,98 @@ no_start h q none p order met = let some = met.finishes in omega arith
 
 pub listed_first : (h : Holders) (running : Running) → HaveLists h running → AreListed h 0 running
 listed_first h running have = record { lists = have; each = λ p lt run. absurd (omega arith) }
+
+-- ---- conflicts at positions
+
+pub no_first : (r : Recorded) (p q : ℕ) → None ≡ descriptor_at r p → (name : List ℕ) → ¬ ConflictAt r name p q
+no_first r p q none name c = none-some c.a (none ∙ c.first)
+
+pub no_second : (r : Recorded) (p q : ℕ) → None ≡ descriptor_at r q → (name : List ℕ) → ¬ ConflictAt r name p q
+no_second r p q none name c = none-some c.b (none ∙ c.second)
+
+module _ (r : Recorded) (p q : ℕ) (a b : Descriptor) (first : descriptor_at r p ≡ Some a) (second : descriptor_at r q ≡ Some b) where
+  over_at : (name : List ℕ) → ConflictOver r name a b → ConflictAt r name p q
+  over_at name over = record { a = a; b = b; first = first; second = second; over = over }
+
+  over_from : (name : List ℕ) → ConflictAt r name p q → ConflictOver r name a b
+  over_from name c =
+      subst (λ (d : Descriptor). ConflictOver r name d b) (same_Some c.a a (sym c.first ∙ first))
+      (subst (λ (d : Descriptor). ConflictOver r name c.a d) (same_Some c.b b (sym c.second ∙ second)) c.over)
+
+  -- the least lock of two descriptors is that of their entries
+  pub least_at : (o : Option (Bor (List ℕ))) →
+      MatchOption o ((name : List ℕ) → ¬ ConflictOver r name a b) (λ name. IsLeastLock r a b name.now) →
+      MatchOption o ((name : List ℕ) → ¬ ConflictAt r name p q) (λ name. IsLeastAt r p q name.now)
+  least_at None none = λ name c. none name (over_from name c)
+  least_at (Some name) found = record {
+    over = over_at name.now found.over;
+    least = λ other c. found.least other (over_from other c);
+  }
+
+-- executions meet where the first still runs, the second is one, and they conflict over some lock
+pub meet_is : (h : Holders) (p q : ℕ) (o : Option (Bor (List ℕ))) → q < finish_of h p → 0 < finish_of h q →
+    MatchOption o ((name : List ℕ) → ¬ ConflictAt h.conflicts name p q) (λ name. IsLeastAt h.conflicts p q name.now) →
+    IsTrue (is_some o) ↔ Meet h p q
+meet_is h p q None running finishes none = (λ yes. absurd (false≢true yes), λ met. absurd (none met.name met.conflict))
+meet_is h p q (Some name) running finishes found = (
+  λ yes. record { running = running; finishes = finishes; name = name.now; conflict = found.over },
+  λ met. refl,
+)
+
+-- ---- the locks of one execution
+
+-- the execution that starts at q stands under the first of its locks
+pub record AreTaken (h : Holders) (q : ℕ) (first running : Running) (locks : List Lock) (count : ℕ) : Type 0 where
+  pub keeps : Keeps h q first running
+  pub lists : HaveLists h running
+  pub each : q < finish_of h q → (i : ℕ) (d : Lock) → i < count → LockIsListed h running (get_or locks i d) q
+
+pub none_taken : (h : Holders) (q : ℕ) (running : Running) (locks : List Lock) → HaveLists h running → AreTaken h q running running locks 0
+none_taken h q running locks have = record {
+  keeps = keeps_all h q running;
+  lists = have;
+  each = λ open_there i d lt. absurd (omega arith);
+}
+
+pub one_taken : (h : Holders) (q : ℕ) (first old new : Running) (locks : List Lock) (count : ℕ) (k : Lock) → AreTaken h q first old locks count →
+    Keeps h q old new → LockIsListed h new k q → k ≡ get_or locks count k → count < length locks → AreTaken h q first new locks (count + 1)
+one_taken h q first old new locks count k taken keeps own is within = record {
+  keeps = keeps_trans h q first old new taken.keeps keeps;
+  lists = keeps.lists taken.lists;
+  each = λ open_there i d lt. ⊎_elim {C = LockIsListed h new (get_or locks i d) q}
+      (λ (before : i < count). listed_kept h q old new keeps (get_or locks i d) q open_there (taken.each open_there i d before))
+      (λ (from : count ≤ i).
+      let same : count ≡ i = omega arith in
+      subst (λ n. LockIsListed h new (get_or locks n d) q) same
+      (subst (λ (x : Lock). LockIsListed h new x q) (is ∙ get_or_default locks count k d within) own))
+      (cases_lt i count);
+}
+
+-- the execution that starts at q stands in the lists of what it uses
+module _ (h : Holders) (q : ℕ) (first old new : Running) (d : Descriptor) (count : ℕ) (at : descriptor_at h.conflicts q ≡ Some d)
+    (are : AreListed h q first) (taken : AreTaken h q first old (locks_of d) count) (all : length (locks_of d) ≤ count)
+    (keeps : Keeps h q old new)
+    (global : IsTestWithoutChild h.conflicts d → Contains (under h new.readers global_name) q ⊎ IsUnwritten h.conflicts global_name) where
+  lock_taken : q < finish_of h q → (k : Lock) → Contains (locks_of d) k → LockIsListed h new k q
+  lock_taken open_there k has =
+      listed_kept h q old new keeps k q open_there
+      (at_place (λ (x : Lock). LockIsListed h old x q) (locks_of d) k
+      (λ i x lt. taken.each open_there i x (omega arith)) has)
+
+  pub all_taken : AreListed h (q + 1) new
+  all_taken = listed_more h q first new are (keeps_trans h q first old new taken.keeps keeps)
+      (λ open_there. listed_from_locks h new q d at (lock_taken open_there) global)
+
+is_write : LockMode → Bool
+is_write Read = false
+is_write ReadWrite = true
+
+pub read_not_write : Read ≡ ReadWrite → ⊥
+read_not_write e = false≢true (ap is_write e)
+
+-- a start of no descriptor
+pub listed_none : (h : Holders) (q : ℕ) (running : Running) → AreListed h q running → None ≡ descriptor_at h.conflicts q → AreListed h (q + 1) running
+listed_none h q running are none = listed_more h q running running are (keeps_all h q running) (λ open_there. record {
+  writes = λ name d at writes. absurd (none-some d (none ∙ at));
+  uses = λ name d at uses. absurd (none-some d (none ∙ at));
+})

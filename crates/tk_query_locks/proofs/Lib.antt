@@ -5,3 +5,5 @@ pub mod ParentLemmas
 pub mod ConflictLemmas
 pub mod HolderLemmas
 pub mod MeetingLemmas
+pub mod StartLemmas
+pub mod EndlessLemmas

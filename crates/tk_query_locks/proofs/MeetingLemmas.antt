@@ -248,7 +248,7 @@ module _ (asked : Selected) (flags : List Bool) (are_flags : AreFlags asked flag
           (λ (same : p ≡ q). not_itself asked.recorded name at.a at.b at.over
           (same_Some at.a at.b (sym first ∙ ap (descriptor_at asked.recorded) same ∙ second)))
           (λ (apart : (p < q) ⊎ (q < p)). ⊎_elim {C = ⊥}
-          (λ (before : p < q). none q p before (meet_endless name p q there one.1.never two.1.never))
-          (λ (after : q < p). none p q after (meet_endless name q p (at_swap name p q there) two.1.never one.1.never))
+          (λ (before : p < q). none q p before (meet_endless name p q there one.1.later two.1.later))
+          (λ (after : q < p). none p q after (meet_endless name q p (at_swap name p q there) two.1.later one.1.later))
           apart)
           (cases_order p q)

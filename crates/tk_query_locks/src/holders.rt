@@ -4,14 +4,14 @@ ghost use Rattle.std.specs.Option.{option_copied};
 ghost use Rattle.std.specs.List.{Contains};
 ghost use Rattle.tk_query_locks.specs.Conflicts.{Uses, Writes};
 ghost use Rattle.tk_query_locks.specs.steps.Positions.{descriptor_at};
-ghost use Rattle.tk_query_locks.specs.steps.Holders.{AreListed, ConflictAt, HaveLists, IsFirstMet, IsLeastAt, IsMeeting, Keeps, LockIsListed, LockMeetsNone, Meet, MeetsNone, finish_of};
+ghost use Rattle.tk_query_locks.specs.steps.Holders.{AreListed, ConflictAt, HaveLists, IsCollision, IsFirstMet, IsLeastAt, IsMeeting, Keeps, LockIsListed, LockMeetsNone, Meet, MeetsNone, finish_of, under};
 
 use crate::conflicts::{Conflicts, GLOBAL};
 use crate::lock_numbers::LockNumbers;
-use crate::start_lists::StartLists;
+use crate::start_lists::{StartLists, finish_at};
 use crate::stub::{Lock, LockMode, locks_of};
 use std::alloc::{AllocError, Global};
-use tk_ids::Descriptor;
+use tk_ids::{Descriptor, Text};
 
 /// The starts of executions that may not have finished: those that hold a lock for writing, and the
 /// others that use it, under the lock's number.
@@ -34,7 +34,14 @@ impl<'r> Holders<'r> {
     fn finish(&self, start: usize) -> usize
         ensures { result ≡ finish_of self.now start }
     {
-        self.finishes.get(start).copied().unwrap_or(0)
+        finish_at(&self.finishes, start)
+    }
+
+    /// Whether an execution starts at `start` that finishes after a position.
+    fn runs_at(&self, start: usize, position: usize) -> bool
+        ensures { IsTrue result ↔ (position < finish_of self.now start) }
+    {
+        position < self.finish(start)
     }
 
     /// The descriptor of the entry at a position.
@@ -48,7 +55,7 @@ impl<'r> Holders<'r> {
 
     /// The least name of a lock over which the descriptors of the entries at two positions
     /// conflict.
-    pub(crate) fn least_lock(&self, first: usize, second: usize) -> Option<&str>
+    fn least_lock(&self, first: usize, second: usize) -> Option<&str>
         ensures { MatchOption result
             ((name : List ℕ) → ¬ ConflictAt self.now.conflicts name first second)
             (λ name. IsLeastAt self.now.conflicts first second name.now) }
@@ -63,10 +70,10 @@ impl<'r> Holders<'r> {
     fn meet(&self, first: usize, second: usize) -> bool
         ensures { IsTrue result ↔ Meet self.now first second }
     {
-        if self.finish(first) <= second {
+        if !self.runs_at(first, second) {
             return false;
         }
-        if self.finish(second) == 0 {
+        if !self.runs_at(second, 0) {
             return false;
         }
         self.least_lock(first, second).is_some()
@@ -138,15 +145,37 @@ impl<'r> Holders<'r> {
         ensures kept { OnOk result (Keeps self.now second running.old running.new) }
         ensures added { OnOk result (LockIsListed self.now running.new lock.now second) }
     {
-        let number = self.numbers.number(lock.name.as_str());
-        running.writers.forget(number, &self.finishes, second);
         match lock.mode {
-            LockMode::Read => running.readers.push(number, second),
-            LockMode::ReadWrite => {
-                running.readers.forget(number, &self.finishes, second);
-                running.writers.push(number, second)
-            }
+            LockMode::Read => self.add_reader(running, lock.name.as_str(), second),
+            LockMode::ReadWrite => self.add_writer(running, lock.name.as_str(), second),
         }
+    }
+
+    /// Adds the execution that starts at `second` to those that use a lock, and forgets the finished
+    /// ones that hold it for writing.
+    fn add_reader(&self, running: &mut Running, name: &str, second: usize) -> Result<(), AllocError>
+        requires { HaveLists self.now running.old }
+        ensures kept { OnOk result (Keeps self.now second running.old running.new) }
+        ensures added { OnOk result (Contains (under self.now running.new.readers name.now) second) }
+    {
+        let number = self.numbers.number(name);
+        running.writers.forget(number, &self.finishes, second);
+        running.readers.push(number, second)?;
+        Ok(())
+    }
+
+    /// Adds the execution that starts at `second` to those that hold a lock for writing, and forgets
+    /// the finished ones that hold or use it.
+    fn add_writer(&self, running: &mut Running, name: &str, second: usize) -> Result<(), AllocError>
+        requires { HaveLists self.now running.old }
+        ensures kept { OnOk result (Keeps self.now second running.old running.new) }
+        ensures added { OnOk result (Contains (under self.now running.new.writers name.now) second) }
+    {
+        let number = self.numbers.number(name);
+        running.writers.forget(number, &self.finishes, second);
+        running.readers.forget(number, &self.finishes, second);
+        running.writers.push(number, second)?;
+        Ok(())
     }
 
     /// Adds the execution that starts at `second` to the lists of the locks that it uses.
@@ -161,7 +190,7 @@ impl<'r> Holders<'r> {
             self.take(running, lock, second)?;
         }
         if self.conflicts.uses_global(descriptor) {
-            running.readers.push(self.numbers.number(GLOBAL), second)?;
+            return self.add_reader(running, GLOBAL, second);
         }
         Ok(())
     }
@@ -193,5 +222,23 @@ impl<'r> Holders<'r> {
             self.start(&mut running, second)?;
         }
         Ok(None)
+    }
+
+    /// Where executions meet first, if they do, and the least name of a lock over which they
+    /// conflict.
+    pub(crate) fn first_collision(
+        &self,
+        alloc: Global,
+    ) -> Result<Option<(usize, usize, Text)>, AllocError>
+        ensures { IfOk result (IsCollision self.now) }
+    {
+        let Some((first, second)) = self.first_meeting(alloc)? else {
+            return Ok(None);
+        };
+        let Some(name) = self.least_lock(first, second) else {
+            unreachable!()
+        };
+        let name = Text::copy(alloc, name)?;
+        Ok(Some((first, second, name)))
     }
 }

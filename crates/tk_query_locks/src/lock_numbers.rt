@@ -34,13 +34,13 @@ impl LockNumbers {
         Ok(())
     }
 
-    /// The number of a name, 0 of one that no static descriptor holds.
+    /// The number of a name. All that no static descriptor holds have one number.
     pub(crate) fn number(&self, name: &str) -> usize
         ensures { result ≡ number_of self.now name.now }
     {
         match self.names.get_index_of(name) {
-            Some(index) => index + 1,
-            None => 0,
+            Some(index) => index,
+            None => self.names.len(),
         }
     }
 

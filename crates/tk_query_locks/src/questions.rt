@@ -8,7 +8,6 @@ use crate::finishes::endless;
 use crate::holders::Holders;
 use crate::lock_numbers::LockNumbers;
 use std::alloc::{AllocError, Global};
-use tk_ids::Text;
 use tk_query::finishes_of;
 use tk_record::Events;
 
@@ -34,10 +33,8 @@ pub fn locks(alloc: Global, events: &Events) -> Result<LockAnswer, AllocError>
         numbers: LockNumbers::of(alloc, record.table())?,
         finishes: finishes_of(alloc, events)?,
     };
-    if let Some((first, second)) = holders.first_meeting(alloc)? {
-        if let Some(name) = holders.least_lock(first, second) {
-            return Ok(LockAnswer::No(first, second, Text::copy(alloc, name)?));
-        }
+    if let Some((first, second, name)) = holders.first_collision(alloc)? {
+        return Ok(LockAnswer::No(first, second, name));
     }
     holders.finishes = endless(alloc, record, &holders.finishes)?;
     match holders.first_meeting(alloc)? {

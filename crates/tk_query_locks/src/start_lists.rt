@@ -5,6 +5,13 @@ ghost use Rattle.std.specs.List.{Contains};
 use std::alloc::{AllocError, Global};
 use std::marker::Model;
 
+/// The finish of the execution that starts at a position, or 0.
+pub(crate) fn finish_at(finishes: &[usize], start: usize) -> usize
+    ensures { result ≡ get_or finishes.now start 0 }
+{
+    finishes.get(start).copied().unwrap_or(0)
+}
+
 /// The positions of starts.
 #[derive(Drop)]
 struct Starts {
@@ -42,14 +49,13 @@ impl Starts {
         Ok(())
     }
 
-    /// Forgets starts of executions that finish up to a position.
+    /// Forgets the starts of executions that finish up to a position.
     fn forget(&mut self, finishes: &[usize], position: usize)
         ensures { (p : ℕ) → position < get_or finishes.now p 0 →
             Contains self.old p → Contains self.new p }
     {
-        self.positions.retain(|start| finishes
-            .get(*start)
-            .is_some_and(|finish| position < *finish));
+        self.positions
+            .retain(|start| position < finish_at(finishes, *start));
     }
 }
 
@@ -73,7 +79,7 @@ impl StartLists {
         ensures { IfOk result (λ lists. length lists ≡ count) }
     {
         let mut lists = Vec::new(alloc);
-        while lists.len() < count {
+        for _number in 0..count {
             lists.push(Starts::new(alloc))?;
         }
         Ok(StartLists { lists })
@@ -95,7 +101,8 @@ impl StartLists {
         ensures added { OnOk result (Contains (get_or self.new number []) start) }
         ensures size { length self.new ≡ length self.old }
     {
-        self.lists[number].push(start)
+        self.lists[number].push(start)?;
+        Ok(())
     }
 
     /// Forgets the starts under a number of executions that finish up to a position.

@@ -59,6 +59,12 @@ pub record IsFirstMeeting (h : Holders) (at : ℕ × ℕ) : Type 0 where
 abbrev pub IsMeeting : Holders → Option (ℕ × ℕ) → Type 0
 IsMeeting h found = MatchOption found ((q : ℕ) → MeetsNone h q) (IsFirstMeeting h)
 
+-- where executions meet first, if they do, and the least lock over which they conflict
+abbrev pub IsCollision : Holders → Option (ℕ × ℕ × List ℕ) → Type 0
+IsCollision h found =
+    MatchOption found ((q : ℕ) → MeetsNone h q)
+    (λ at. IsFirstMeeting h (at.0, at.1) × IsLeastAt h.conflicts at.0 at.1 at.2)
+
 -- the starts under the number of a lock
 abbrev pub under : Holders → List (List ℕ) → List ℕ → List ℕ
 under h lists name = get_or lists (number_of h.numbers name) []

@@ -1,7 +1,17 @@
-use Rattle.std.proofs.Common.{arith}
+use Rattle.std.proofs.Common.{arith, sym, ◌∙◌}
+use Rattle.std.proofs.lemmas.Bool.{false≢true}
 use Rattle.tk_query_locks.specs.steps.Holders.{Meet}
-use Rattle.tk_query_locks.proofs.ConflictLemmas.{at_place}
+use Rattle.tk_query_locks.proofs.ConflictLemmas.{at_place, each_more}
 use Rattle.tk_query_locks.proofs.holders.Holders.some_meets.Goals as goal
+
+pub loop-first-init : goal.loop-first-init
+loop-first-init c = λ i d lt. absurd (omega arith)
+
+pub loop-first-preserved : goal.loop-first-preserved
+loop-first-preserved c =
+    each_more (λ n. ¬ Meet c.args.self.now n c.args.second) c.args.starts.now c.loop-first.first-index
+    c.first-item.result c.first-item.is c.loop-first-test.true c.loop-first.invariant
+    (λ met. false≢true (sym c.if-meet.false ∙ c.meet.ensures.1 met))
 
 pub returns : goal.returns
 returns c = λ none p has.
