@@ -9,10 +9,9 @@ use Rattle.std.proofs.lemmas.Option.{same_Some, none-some}
 use Rattle.tk_ids.specs.declared.descriptors.Descriptor.{Descriptor}
 use Rattle.tk_record.specs.Entries.{desc}
 use Rattle.tk_record.specs.Recorded.{Recorded}
-use Rattle.tk_query_locks.specs.Stub.{locks_of}
-use Rattle.tk_query_locks.specs.declared.stub.LockMode.{LockMode}
-use Rattle.tk_query_locks.specs.declared.stub.LockMode.TheVariants.{Read, ReadWrite}
-use Rattle.tk_query_locks.specs.declared.stub.Lock.{Lock}
+use Rattle.tk_ids.specs.declared.locks.LockMode.{LockMode}
+use Rattle.tk_ids.specs.declared.locks.LockMode.TheVariants.{Read, ReadWrite}
+use Rattle.tk_ids.specs.declared.locks.Lock.{Lock}
 use Rattle.tk_query_locks.specs.Conflicts.{ConflictOver, Holds, IsTestWithoutChild, Uses, Writes, global_name, lock}
 use Rattle.tk_query_locks.specs.declared.holders.Holders.{Holders}
 use Rattle.tk_query_locks.specs.declared.holders.Running.{Running}
@@ -33,7 +32,7 @@ described_at r p d is = by (key_at r p) is
 -- ---- whom an execution meets
 
 module _ (h : Holders) (running : Running) (q : ℕ) (d : Descriptor) (at : descriptor_at h.conflicts q ≡ Some d) (listed : AreListed h q running)
-    (locks_none : (k : Lock) → Contains (locks_of d) k → LockMeetsNone h running k q)
+    (locks_none : (k : Lock) → Contains d.locks k → LockMeetsNone h running k q)
     (global_none : IsTestWithoutChild h.conflicts d → ((p : ℕ) → Contains (under h running.writers global_name) p → ¬ Meet h p q) ⊎ IsUnwritten h.conflicts global_name) where
   -- the other holds the lock for writing
   other_writes : (p : ℕ) (name : List ℕ) (a : Descriptor) → p < q → Meet h p q → descriptor_at h.conflicts p ≡ Some a → Writes name a → Uses h.conflicts name d → ⊥
@@ -109,7 +108,7 @@ is_kept h q old new keeps p lt is = record {
 
 -- the execution that starts at q stands under each lock that its descriptor uses
 pub listed_from_locks : (h : Holders) (running : Running) (q : ℕ) (d : Descriptor) → descriptor_at h.conflicts q ≡ Some d →
-    ((k : Lock) → Contains (locks_of d) k → LockIsListed h running k q) →
+    ((k : Lock) → Contains d.locks k → LockIsListed h running k q) →
     (IsTestWithoutChild h.conflicts d → Contains (under h running.readers global_name) q ⊎ IsUnwritten h.conflicts global_name) →
     IsListed h running q
 listed_from_locks h running q d at locks global = record {
@@ -220,13 +219,13 @@ one_taken h q first old new locks count k taken keeps own is within = record {
 
 -- the execution that starts at q stands in the lists of what it uses
 module _ (h : Holders) (q : ℕ) (first old new : Running) (d : Descriptor) (count : ℕ) (at : descriptor_at h.conflicts q ≡ Some d)
-    (are : AreListed h q first) (taken : AreTaken h q first old (locks_of d) count) (all : length (locks_of d) ≤ count)
+    (are : AreListed h q first) (taken : AreTaken h q first old d.locks count) (all : length d.locks ≤ count)
     (keeps : Keeps h q old new)
     (global : IsTestWithoutChild h.conflicts d → Contains (under h new.readers global_name) q ⊎ IsUnwritten h.conflicts global_name) where
-  lock_taken : q < finish_of h q → (k : Lock) → Contains (locks_of d) k → LockIsListed h new k q
+  lock_taken : q < finish_of h q → (k : Lock) → Contains d.locks k → LockIsListed h new k q
   lock_taken open_there k has =
       listed_kept h q old new keeps k q open_there
-      (at_place (λ (x : Lock). LockIsListed h old x q) (locks_of d) k
+      (at_place (λ (x : Lock). LockIsListed h old x q) d.locks k
       (λ i x lt. taken.each open_there i x (omega arith)) has)
 
   pub all_taken : AreListed h (q + 1) new

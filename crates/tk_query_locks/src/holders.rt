@@ -9,9 +9,8 @@ ghost use Rattle.tk_query_locks.specs.steps.Holders.{AreListed, ConflictAt, Have
 use crate::conflicts::{Conflicts, GLOBAL};
 use crate::lock_numbers::LockNumbers;
 use crate::start_lists::{StartLists, finish_at};
-use crate::stub::{Lock, LockMode, locks_of};
 use std::alloc::{AllocError, Global};
-use tk_ids::{Descriptor, Text};
+use tk_ids::{Descriptor, Lock, LockMode, Text};
 
 /// The starts of executions that may not have finished: those that hold a lock for writing, and the
 /// others that use it, under the lock's number.
@@ -128,7 +127,7 @@ impl<'r> Holders<'r> {
         let Some(descriptor) = self.descriptor(second) else {
             return false;
         };
-        for lock in locks_of(descriptor) {
+        for lock in descriptor.locks.as_slice() {
             if self.is_lock_held(running, lock, second) {
                 return true;
             }
@@ -186,7 +185,7 @@ impl<'r> Holders<'r> {
         let Some(descriptor) = self.descriptor(second) else {
             return Ok(());
         };
-        for lock in locks_of(descriptor) {
+        for lock in descriptor.locks.as_slice() {
             self.take(running, lock, second)?;
         }
         if self.conflicts.uses_global(descriptor) {
