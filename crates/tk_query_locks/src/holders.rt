@@ -1,5 +1,5 @@
 //! Executions that conflict over a lock and overlap.
-ghost use Rattle.std.specs.Prelude.{◌≡◌, ◌↔◌, ◌+◌, ℕ, List, IsTrue, IfOk, OnOk, MatchOption, false, get_or, length};
+ghost use Rattle.std.specs.Prelude.{◌≡◌, ◌↔◌, ◌+◌, ◌<◌, ℕ, List, IsTrue, IfOk, OnOk, MatchOption, false, get_or, length};
 ghost use Rattle.std.specs.Option.{option_copied};
 ghost use Rattle.std.specs.List.{Contains};
 ghost use Rattle.tk_query_locks.specs.Conflicts.{Uses, Writes};
@@ -138,6 +138,18 @@ impl<'r> Holders<'r> {
         self.some_meets(running.writers.starts(self.numbers.number(GLOBAL)), second)
     }
 
+    /// The first execution that conflicts with one that starts at `second`, and has not finished
+    /// there. Only where one in the lists does are all that start before gone through.
+    fn met_at(&self, running: &Running, second: usize) -> Option<usize>
+        requires { AreListed self.now second running.now }
+        ensures { MatchOption result (MeetsNone self.now second) (IsFirstMet self.now second) }
+    {
+        if !self.is_held(running, second) {
+            return None;
+        }
+        self.first_met(second)
+    }
+
     /// Adds the execution that starts at `second` to the lists of a lock that it holds.
     fn take(&self, running: &mut Running, lock: &Lock, second: usize) -> Result<(), AllocError>
         requires { HaveLists self.now running.old }
@@ -210,13 +222,11 @@ impl<'r> Holders<'r> {
     {
         let mut running = self.none_running(alloc)?;
         for second in 0..self.finishes.len() {
-            if self.finishes[second] == 0 {
+            if !self.runs_at(second, 0) {
                 continue;
             }
-            if self.is_held(&running, second) {
-                if let Some(first) = self.first_met(second) {
-                    return Ok(Some((first, second)));
-                }
+            if let Some(first) = self.met_at(&running, second) {
+                return Ok(Some((first, second)));
             }
             self.start(&mut running, second)?;
         }
