@@ -3,14 +3,19 @@ ghost use Rattle.std.specs.Prelude.{◌≡◌, ◌↔◌, ◌+◌, ◌<◌, ℕ,
 ghost use Rattle.std.specs.Option.{option_copied};
 ghost use Rattle.std.specs.List.{Contains};
 ghost use Rattle.tk_query_locks.specs.Conflicts.{Uses, Writes};
+ghost use Rattle.tk_query.specs.steps.Holders.{AreFinishes};
+ghost use Rattle.tk_query_locks.specs.steps.Finishes.{AreEndless};
 ghost use Rattle.tk_query_locks.specs.steps.Positions.{descriptor_at};
 ghost use Rattle.tk_query_locks.specs.steps.Holders.{AreListed, ConflictAt, HaveLists, IsCollision, IsFirstMet, IsLeastAt, IsMeeting, Keeps, LockIsListed, LockMeetsNone, Meet, MeetsNone, finish_of, under};
 
 use crate::conflicts::{Conflicts, GLOBAL};
+use crate::finishes::endless;
 use crate::lock_numbers::LockNumbers;
 use crate::start_lists::{StartLists, finish_at};
 use std::alloc::{AllocError, Global};
 use tk_ids::{Descriptor, Lock, LockMode, Text};
+use tk_query::finishes_of;
+use tk_record::Events;
 
 /// The starts of executions that may not have finished: those that hold a lock for writing, and the
 /// others that use it, under the lock's number.
@@ -23,13 +28,37 @@ struct Running {
 /// The executions of a record, which may conflict over locks.
 #[derive(Drop)]
 pub(crate) struct Holders<'r> {
-    pub(crate) conflicts: Conflicts<'r>,
-    pub(crate) numbers: LockNumbers,
+    conflicts: Conflicts<'r>,
+    numbers: LockNumbers,
     // Under the position of each start that of its finish, and 0 elsewhere.
-    pub(crate) finishes: Vec<usize>,
+    finishes: Vec<usize>,
 }
 
 impl<'r> Holders<'r> {
+    /// Takes the executions of the events.
+    pub(crate) fn of(alloc: Global, events: &Events<'r>) -> Result<Holders<'r>, AllocError>
+        ensures conflicts { IfOk result (λ h. h.conflicts ≡ events.now.recorded) }
+        ensures finishes { IfOk result (λ h. AreFinishes events.now h.finishes.items) }
+    {
+        let record = events.record();
+        Ok(Holders {
+            conflicts: Conflicts::of(alloc, record)?,
+            numbers: LockNumbers::of(alloc, record.table())?,
+            finishes: finishes_of(alloc, events)?,
+        })
+    }
+
+    /// Lets each execution run past the end of the record, so that all overlap.
+    pub(crate) fn forget_finishes(&mut self, alloc: Global) -> Result<(), AllocError>
+        ensures conflicts { self.new.conflicts ≡ self.old.conflicts }
+        ensures finishes { OnOk result (AreEndless self.old.conflicts
+            self.old.finishes.items self.new.finishes.items) }
+    {
+        let finishes = endless(alloc, self.conflicts.record(), &self.finishes)?;
+        self.finishes = finishes;
+        Ok(())
+    }
+
     fn finish(&self, start: usize) -> usize
         ensures { result ≡ finish_of self.now start }
     {
