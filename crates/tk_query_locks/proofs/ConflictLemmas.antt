@@ -6,9 +6,8 @@ use Rattle.std.proofs.lemmas.Bool.{cases_lt, true≢false}
 use Rattle.std.proofs.lemmas.List.{get_or_default}
 use Rattle.tk_ids.specs.declared.descriptors.Descriptor.{Descriptor}
 use Rattle.tk_record.specs.Recorded.{Recorded}
-use Rattle.tk_query_locks.specs.Stub.{locks_of}
-use Rattle.tk_query_locks.specs.declared.stub.LockMode.TheVariants.{ReadWrite}
-use Rattle.tk_query_locks.specs.declared.stub.Lock.{Lock}
+use Rattle.tk_ids.specs.declared.locks.LockMode.TheVariants.{ReadWrite}
+use Rattle.tk_ids.specs.declared.locks.Lock.{Lock}
 use Rattle.tk_query_locks.specs.Conflicts.{AreApart, ConflictOver, Holds, IsTestWithoutChild, Uses, Writes, global_name, lock}
 use Rattle.tk_query_locks.specs.steps.Conflicts.{IsAtMost, IsDescribed, IsLeastLock}
 use Rattle.tk_query_locks.specs.steps.Parents.{IsUnwritten}
@@ -42,7 +41,7 @@ pub at_place : {A : Type 0} (P : A → Type 0) (xs : List A) (x : A) → ((i : �
 at_place P xs x each has = subst P has.2 (each has.0 x has.1)
 
 module _ (r : Recorded) (a b : Descriptor) (least : Option (Bor (List ℕ)))
-    (each : (k : Lock) → Contains (locks_of a) k → ConflictOver r k.name a b → IsAtMost least k.name)
+    (each : (k : Lock) → Contains a.locks k → ConflictOver r k.name a b → IsAtMost least k.name)
     (global : ConflictOver r global_name a b → IsAtMost least global_name) where
   at_most_all : (name : List ℕ) → ConflictOver r name a b → IsAtMost least name
   at_most_all name over = ⊎_elim {C = IsAtMost least name}

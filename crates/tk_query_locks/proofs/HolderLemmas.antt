@@ -1,18 +1,17 @@
 -- The executions in the lists, and those that an execution meets.
 use Rattle.std.proofs.Common.{◌≡◌, ℕ, zero, suc, ◌+◌, ◌<◌, ◌≤◌, Bool, true, false, ◌⊎◌, inl, inr, ⊎_elim, List, [], ◌∷◌, get_or, length, Option, Some, None, Bor, refl, sym, ap, ◌∙◌, subst, arith}
-use Rattle.std.specs.Prelude.{◌↔◌, IsTrue, MatchOption, is_some}
+use Rattle.std.specs.Prelude.{◌↔◌, IsTrue, MatchOption, OnOk, Result, Ok, Err, is_some}
 use Rattle.std.specs.List.{Contains}
 use Rattle.std.specs.Option.{option_and_then}
 use Rattle.std.proofs.lemmas.Bool.{cases_lt, false≢true}
-use Rattle.std.proofs.lemmas.List.{get_or_default}
+use Rattle.std.proofs.lemmas.List.{get_or_default, get_or_past}
 use Rattle.std.proofs.lemmas.Option.{same_Some, none-some}
 use Rattle.tk_ids.specs.declared.descriptors.Descriptor.{Descriptor}
 use Rattle.tk_record.specs.Entries.{desc}
 use Rattle.tk_record.specs.Recorded.{Recorded}
-use Rattle.tk_query_locks.specs.Stub.{locks_of}
-use Rattle.tk_query_locks.specs.declared.stub.LockMode.{LockMode}
-use Rattle.tk_query_locks.specs.declared.stub.LockMode.TheVariants.{Read, ReadWrite}
-use Rattle.tk_query_locks.specs.declared.stub.Lock.{Lock}
+use Rattle.tk_ids.specs.declared.locks.LockMode.{LockMode}
+use Rattle.tk_ids.specs.declared.locks.LockMode.TheVariants.{Read, ReadWrite}
+use Rattle.tk_ids.specs.declared.locks.Lock.{Lock}
 use Rattle.tk_query_locks.specs.Conflicts.{ConflictOver, Holds, IsTestWithoutChild, Uses, Writes, global_name, lock}
 use Rattle.tk_query_locks.specs.declared.holders.Holders.{Holders}
 use Rattle.tk_query_locks.specs.declared.holders.Running.{Running}
@@ -20,7 +19,7 @@ use Rattle.tk_query_locks.specs.steps.Conflicts.{IsDescribed, IsLeastLock}
 use Rattle.tk_query_locks.specs.steps.Parents.{IsUnwritten}
 use Rattle.tk_query_locks.proofs.ConflictLemmas.{at_place}
 use Rattle.tk_query_locks.specs.steps.Positions.{descriptor_at, key_at}
-use Rattle.tk_query_locks.specs.steps.Holders.{AreListed, ConflictAt, HaveLists, IsLeastAt, IsListed, IsListedAs, Keeps, LockIsListed, LockMeetsNone, Meet, MeetsNone, finish_of, under}
+use Rattle.tk_query_locks.specs.steps.Holders.{AreListed, ConflictAt, HaveLists, IsFirstMeeting, IsFirstMet, IsLeastAt, IsListed, IsListedAs, Keeps, LockIsListed, LockMeetsNone, Meet, MeetsNone, finish_of, under}
 
 -- the descriptor of an entry is one of the record
 pub described_at : (r : Recorded) (p : ℕ) (d : Descriptor) → descriptor_at r p ≡ Some d → IsDescribed r d
@@ -33,7 +32,7 @@ described_at r p d is = by (key_at r p) is
 -- ---- whom an execution meets
 
 module _ (h : Holders) (running : Running) (q : ℕ) (d : Descriptor) (at : descriptor_at h.conflicts q ≡ Some d) (listed : AreListed h q running)
-    (locks_none : (k : Lock) → Contains (locks_of d) k → LockMeetsNone h running k q)
+    (locks_none : (k : Lock) → Contains d.locks k → LockMeetsNone h running k q)
     (global_none : IsTestWithoutChild h.conflicts d → ((p : ℕ) → Contains (under h running.writers global_name) p → ¬ Meet h p q) ⊎ IsUnwritten h.conflicts global_name) where
   -- the other holds the lock for writing
   other_writes : (p : ℕ) (name : List ℕ) (a : Descriptor) → p < q → Meet h p q → descriptor_at h.conflicts p ≡ Some a → Writes name a → Uses h.conflicts name d → ⊥
@@ -109,7 +108,7 @@ is_kept h q old new keeps p lt is = record {
 
 -- the execution that starts at q stands under each lock that its descriptor uses
 pub listed_from_locks : (h : Holders) (running : Running) (q : ℕ) (d : Descriptor) → descriptor_at h.conflicts q ≡ Some d →
-    ((k : Lock) → Contains (locks_of d) k → LockIsListed h running k q) →
+    ((k : Lock) → Contains d.locks k → LockIsListed h running k q) →
     (IsTestWithoutChild h.conflicts d → Contains (under h running.readers global_name) q ⊎ IsUnwritten h.conflicts global_name) →
     IsListed h running q
 listed_from_locks h running q d at locks global = record {
@@ -220,20 +219,20 @@ one_taken h q first old new locks count k taken keeps own is within = record {
 
 -- the execution that starts at q stands in the lists of what it uses
 module _ (h : Holders) (q : ℕ) (first old new : Running) (d : Descriptor) (count : ℕ) (at : descriptor_at h.conflicts q ≡ Some d)
-    (are : AreListed h q first) (taken : AreTaken h q first old (locks_of d) count) (all : length (locks_of d) ≤ count)
+    (are : AreListed h q first) (taken : AreTaken h q first old d.locks count) (all : length d.locks ≤ count)
     (keeps : Keeps h q old new)
     (global : IsTestWithoutChild h.conflicts d → Contains (under h new.readers global_name) q ⊎ IsUnwritten h.conflicts global_name) where
-  lock_taken : q < finish_of h q → (k : Lock) → Contains (locks_of d) k → LockIsListed h new k q
+  lock_taken : q < finish_of h q → (k : Lock) → Contains d.locks k → LockIsListed h new k q
   lock_taken open_there k has =
       listed_kept h q old new keeps k q open_there
-      (at_place (λ (x : Lock). LockIsListed h old x q) (locks_of d) k
+      (at_place (λ (x : Lock). LockIsListed h old x q) d.locks k
       (λ i x lt. taken.each open_there i x (omega arith)) has)
 
   pub all_taken : AreListed h (q + 1) new
   all_taken = listed_more h q first new are (keeps_trans h q first old new taken.keeps keeps)
       (λ open_there. listed_from_locks h new q d at (lock_taken open_there) global)
 
-is_write : LockMode → Bool
+abbrev is_write : LockMode → Bool
 is_write Read = false
 is_write ReadWrite = true
 
@@ -246,3 +245,38 @@ listed_none h q running are none = listed_more h q running running are (keeps_al
   writes = λ name d at writes. absurd (none-some d (none ∙ at));
   uses = λ name d at uses. absurd (none-some d (none ∙ at));
 })
+
+-- ---- the first that meet
+
+pub on_ok_both : {X E A B C : Type 0} (o : Result X E) → OnOk o A → OnOk o B → (A → B → C) → OnOk o C
+on_ok_both (Ok x) a b f = f a b
+on_ok_both (Err e) a b f = a
+
+pub no_finish : (n : ℕ) → ¬ (0 < n) → n ≡ 0
+no_finish zero none = refl
+no_finish (suc n) none = absurd (none (omega arith))
+
+-- one position more at which none is met
+pub none_more : (h : Holders) (q : ℕ) → ((j : ℕ) → j < q → MeetsNone h j) → MeetsNone h q → (j : ℕ) → j < q + 1 → MeetsNone h j
+none_more h q before own j lt = ⊎_elim {C = MeetsNone h j}
+    (λ (lower : j < q). before j lower)
+    (λ (from : q ≤ j). let same : q ≡ j = omega arith in subst (MeetsNone h) same own)
+    (cases_lt j q)
+
+pub none_met : (h : Holders) (q : ℕ) (o : Option ℕ) → o ≡ None → MatchOption o (MeetsNone h q) (IsFirstMet h q) → MeetsNone h q
+none_met h q (Some p) is met = absurd (none-some p (sym is))
+none_met h q None is none = none
+
+-- past the end no execution starts
+pub none_past : (h : Holders) (count : ℕ) → length h.finishes.items ≤ count → ((j : ℕ) → j < count → MeetsNone h j) → (q : ℕ) → MeetsNone h q
+none_past h count all before q = ⊎_elim {C = MeetsNone h q}
+    (λ (lower : q < count). before q lower)
+    (λ (from : count ≤ q). no_start h q (get_or_past h.finishes.items q 0 (omega arith)))
+    (cases_lt q count)
+
+-- executions that meet conflict over some lock
+pub never_least : (h : Holders) (p q : ℕ) (o : Option (Bor (List ℕ))) → o ≡ None →
+    MatchOption o ((name : List ℕ) → ¬ ConflictAt h.conflicts name p q) (λ name. IsLeastAt h.conflicts p q name.now) →
+    IsFirstMeeting h (p, q) → ⊥
+never_least h p q (Some name) is found first = none-some name (sym is)
+never_least h p q None is none first = none first.met.met.name first.met.met.conflict

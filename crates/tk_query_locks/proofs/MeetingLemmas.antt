@@ -1,8 +1,8 @@
 -- Executions that meet are those that conflict and overlap.
 use Rattle.std.proofs.Common.{◌≡◌, ℕ, zero, suc, ◌<◌, ◌≤◌, Bool, true, false, ◌⊎◌, inl, inr, ⊎_elim, List, [], ◌∷◌, get_or, length, map, Option, Some, None, refl, sym, ap, ◌∙◌, subst, arith}
-use Rattle.std.specs.Prelude.{slice_get}
+use Rattle.std.specs.Prelude.{is_some, slice_get}
 use Rattle.std.specs.Option.{option_and_then}
-use Rattle.std.proofs.lemmas.Bool.{cases_lt, cases_order}
+use Rattle.std.proofs.lemmas.Bool.{cases_lt, cases_order, false≢true}
 use Rattle.std.proofs.lemmas.List.{length-map}
 use Rattle.std.proofs.lemmas.Option.{same_Some, none-some}
 use Rattle.tk_ids.specs.declared.descriptors.Descriptor.{Descriptor}
@@ -23,10 +23,10 @@ use Rattle.tk_query_locks.specs.declared.answers.LockAnswer.{LockAnswer}
 use Rattle.tk_query_locks.specs.declared.answers.LockAnswer.TheVariants.{Yes, No, NoPair}
 use Rattle.tk_query_locks.specs.declared.holders.Holders.{Holders}
 use Rattle.tk_query_locks.specs.Conflicts.{ConflictOver, Uses, Writes}
-use Rattle.tk_query_locks.specs.LockAnswers.{Collide, CollideAt, Conflict, IsFirstCollision, SomeConflict}
+use Rattle.tk_query_locks.specs.LockAnswers.{Collide, CollideAt, Conflict, IsFirstCollision, IsLockAnswer, SomeConflict}
 use Rattle.tk_query_locks.specs.steps.Finishes.{AreEndless, IsEndlessAt}
 use Rattle.tk_query_locks.specs.steps.Positions.{descriptor_at, key_at}
-use Rattle.tk_query_locks.specs.steps.Holders.{ConflictAt, IsFirstMeeting, IsLeastAt, Meet, MeetsNone, finish_of}
+use Rattle.tk_query_locks.specs.steps.Holders.{ConflictAt, IsFirstMeeting, IsLeastAt, IsMeeting, Meet, MeetsNone, finish_of}
 use Rattle.tk_query_locks.proofs.DescentLemmas.{apart_swap, not_apart_itself}
 use Rattle.tk_query_locks.proofs.ParentLemmas.{place_within}
 
@@ -252,3 +252,15 @@ module _ (asked : Selected) (flags : List Bool) (are_flags : AreFlags asked flag
           (λ (after : q < p). none p q after (meet_endless name q p (at_swap name p q there) two.1.later one.1.later))
           apart)
           (cases_order p q)
+
+      pub yes_is :
+          (found : Option (ℕ × ℕ)) → is_some found ≡ true → IsMeeting n found →
+          ((q : ℕ) → MeetsNone h q) → IsLockAnswer asked Yes
+      yes_is None some met none = absurd (false≢true some)
+      yes_is (Some at) some met none = (some_conflict at.0 at.1 met.met.met, none_collide none)
+
+      pub no_pair_is :
+          (found : Option (ℕ × ℕ)) → is_some found ≡ false → IsMeeting n found →
+          IsLockAnswer asked NoPair
+      no_pair_is None none met = none_conflict met
+      no_pair_is (Some at) none met = absurd (false≢true (sym none))

@@ -9,12 +9,17 @@ use Rattle.std.proofs.lemmas.Option.{same_Some, none-some}
 use Rattle.tk_ids.specs.IdText.{SegmentView, IsId, id_text, parent_of}
 use Rattle.tk_ids.specs.declared.descriptors.Descriptor.{Descriptor}
 use Rattle.tk_ids.proofs.ReadingLemmas.{text_is_unique}
+use Rattle.tk_ids.specs.declared.locks.Lock.{Lock}
+use Rattle.tk_events.specs.Event.{is_lawful}
+use Rattle.tk_events.specs.declared.kinds.Kind.{Kind}
 use Rattle.tk_events.specs.declared.kinds.Kind.TheVariants.{Dynamic}
+use Rattle.tk_events.specs.declared.kinds.Kind.TheVariants as kind
+use Rattle.tk_events.specs.declared.payloads.Payload.{Payload}
+use Rattle.tk_events.specs.declared.payloads.Payload.TheVariants as payload
 use Rattle.tk_events.specs.declared.events.Entry.{Entry}
 use Rattle.tk_record.specs.Entries.{of_kind, described, registered, desc_in, desc}
 use Rattle.tk_record.specs.Recorded.{Recorded}
 use Rattle.tk_record.specs.Record.{IsRecord}
-use Rattle.tk_query_locks.specs.Stub.{locks_of}
 use Rattle.tk_query_locks.specs.Conflicts.{HasChild, Writes}
 use Rattle.tk_query_locks.specs.declared.parents.Parents.{Parents}
 use Rattle.tk_query_locks.specs.steps.Parents.{AreParents, AreParentsOnly, HasChildUnder, HasParentOf, IsParentText, IsUnwritten, has_text}
@@ -183,12 +188,38 @@ parents_all r parents count are all = record {
       (static_or_registered r key d described);
 }
 
--- a descriptor that an entry registers has no locks
-no_locks : (r : Recorded) (key : ℕ) (d : Descriptor) → IsRecord r → IsRegistered r.entries key d → locks_of d ≡ []
-unfolding locks_of
-no_locks r key d is by = refl
+no_lock : (locks : List Lock) → (length locks == 0) ≡ true → locks ≡ []
+no_lock [] e = refl
+no_lock (l ∷ locks) e = let same = eqb-true (length (l ∷ locks)) 0 e in absurd (omega (arith, same))
 
-none_written : (name : List ℕ) (d : Descriptor) → locks_of d ≡ [] → ¬ Writes name d
+-- a descriptor in a lawful registration has no locks
+lawful_locks : (k : Kind) (p : Payload) (d : Descriptor) → described p ≡ Some d → is_lawful k p ≡ true → d.locks ≡ []
+lawful_locks k payload.Nothing d is ok = absurd (none-some d is)
+lawful_locks k (payload.Reason text) d is ok = absurd (none-some d is)
+lawful_locks k (payload.Outcome status message) d is ok = absurd (none-some d is)
+lawful_locks k (payload.Report pairs) d is ok = absurd (none-some d is)
+lawful_locks k (payload.Path path) d is ok = absurd (none-some d is)
+lawful_locks kind.Dynamic (payload.Described x) d is ok =
+    subst (λ (y : Descriptor). y.locks ≡ []) (same_Some x d is) (no_lock x.locks ok)
+lawful_locks kind.Started (payload.Described x) d is ok = absurd (true≢false (sym ok))
+lawful_locks kind.Skipped (payload.Described x) d is ok = absurd (true≢false (sym ok))
+lawful_locks kind.Finished (payload.Described x) d is ok = absurd (true≢false (sym ok))
+lawful_locks kind.Reporting (payload.Described x) d is ok = absurd (true≢false (sym ok))
+lawful_locks kind.File (payload.Described x) d is ok = absurd (true≢false (sym ok))
+
+place_is : (es : List Entry) (i : ℕ) (e : Entry) → slice_get es i ≡ Some e → get_or es i e ≡ e
+place_is [] i e at = absurd (none-some e at)
+place_is (x ∷ es) zero e at = same_Some x e at
+place_is (x ∷ es) (suc i) e at = place_is es i e at
+
+-- a descriptor that an entry registers has no locks
+no_locks : (r : Recorded) (key : ℕ) (d : Descriptor) → IsRecord r → IsRegistered r.entries key d → d.locks ≡ []
+no_locks r key d is by =
+    lawful_locks by.entry.event.kind by.entry.event.payload d by.describes
+    (subst (λ (e : Entry). is_lawful e.event.kind e.event.payload ≡ true) (place_is r.entries by.position by.entry by.stands)
+    (is.lawful by.position by.entry (place_within r.entries by.position by.entry by.stands)))
+
+none_written : (name : List ℕ) (d : Descriptor) → d.locks ≡ [] → ¬ Writes name d
 none_written name d none has = absurd (let lt = has.1 in let size = ap length none in omega (arith, lt, size))
 
 -- where no static descriptor holds a lock for writing, none does

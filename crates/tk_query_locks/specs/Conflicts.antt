@@ -6,10 +6,9 @@ use Rattle.tk_ids.specs.DTypes.{is_test}
 use Rattle.tk_ids.specs.IdText.{SegmentView}
 use Rattle.tk_record.specs.Entries.{desc}
 use Rattle.tk_record.specs.Recorded.{Recorded}
-use Rattle.tk_query_locks.specs.Stub.{locks_of}
-use Rattle.tk_query_locks.specs.declared.stub.LockMode.{LockMode}
-use Rattle.tk_query_locks.specs.declared.stub.LockMode.TheVariants.{Read, ReadWrite}
-use Rattle.tk_query_locks.specs.declared.stub.Lock.{Lock}
+use Rattle.tk_ids.specs.declared.locks.LockMode.{LockMode}
+use Rattle.tk_ids.specs.declared.locks.LockMode.TheVariants.{Read, ReadWrite}
+use Rattle.tk_ids.specs.declared.locks.Lock.{Lock}
 
 -- an id begins with the list of segments of another
 abbrev pub BeginsWith : List SegmentView → List SegmentView → Type 0
@@ -26,11 +25,11 @@ lock name mode = record { name = name; mode = mode }
 
 -- the descriptor holds the lock of this name for writing
 abbrev pub Writes : List ℕ → Descriptor → Type 0
-Writes name d = Contains (locks_of d) (lock name ReadWrite)
+Writes name d = Contains d.locks (lock name ReadWrite)
 
 -- the descriptor holds the lock of this name, for reading or for writing
 abbrev pub Holds : List ℕ → Descriptor → Type 0
-Holds name d = (mode : LockMode) × Contains (locks_of d) (lock name mode)
+Holds name d = (mode : LockMode) × Contains d.locks (lock name mode)
 
 -- a descriptor of the record has the id with one segment more
 pub record HasChild (r : Recorded) (id : List SegmentView) : Type 0 where

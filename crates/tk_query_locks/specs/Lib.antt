@@ -1,4 +1,3 @@
-pub mod Stub
 pub mod Conflicts
 pub mod LockAnswers
 pub mod AnswerTexts

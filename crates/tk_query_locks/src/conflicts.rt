@@ -8,10 +8,9 @@ ghost use Rattle.tk_query_locks.specs.steps.Parents.{IsUnwritten};
 
 use crate::descent::are_apart;
 use crate::parents::Parents;
-use crate::stub::{LockMode, locks_of};
 use std::alloc::{AllocError, Global};
 use std::marker::Model;
-use tk_ids::Descriptor;
+use tk_ids::{Descriptor, LockMode};
 use tk_record::Record;
 
 /// The name of the lock that each test without a child uses.
@@ -21,7 +20,7 @@ pub(crate) const GLOBAL: &str = "global";
 fn writes(descriptor: &Descriptor, name: &str) -> bool
     ensures { IsTrue result ↔ Writes name.now descriptor.now }
 {
-    for lock in locks_of(descriptor) {
+    for lock in descriptor.locks.as_slice() {
         if matches!(lock.mode, LockMode::ReadWrite) && lock.name.as_str() == name {
             return true;
         }
@@ -33,7 +32,7 @@ fn writes(descriptor: &Descriptor, name: &str) -> bool
 fn holds(descriptor: &Descriptor, name: &str) -> bool
     ensures { IsTrue result ↔ Holds name.now descriptor.now }
 {
-    for lock in locks_of(descriptor) {
+    for lock in descriptor.locks.as_slice() {
         if lock.name.as_str() == name {
             return true;
         }
@@ -179,7 +178,7 @@ impl<'r> Conflicts<'r> {
             return None;
         }
         let mut least = self.lesser(a, b, None, GLOBAL);
-        for lock in locks_of(a) {
+        for lock in a.locks.as_slice() {
             least = self.lesser(a, b, least, lock.name.as_str());
         }
         least

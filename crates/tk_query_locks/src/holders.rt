@@ -1,17 +1,21 @@
 //! Executions that conflict over a lock and overlap.
-ghost use Rattle.std.specs.Prelude.{◌≡◌, ◌↔◌, ◌+◌, ℕ, List, IsTrue, IfOk, OnOk, MatchOption, false, get_or, length};
+ghost use Rattle.std.specs.Prelude.{◌≡◌, ◌↔◌, ◌+◌, ◌<◌, ℕ, List, IsTrue, IfOk, OnOk, MatchOption, false, get_or, length};
 ghost use Rattle.std.specs.Option.{option_copied};
 ghost use Rattle.std.specs.List.{Contains};
 ghost use Rattle.tk_query_locks.specs.Conflicts.{Uses, Writes};
+ghost use Rattle.tk_query.specs.steps.Holders.{AreFinishes};
+ghost use Rattle.tk_query_locks.specs.steps.Finishes.{AreEndless};
 ghost use Rattle.tk_query_locks.specs.steps.Positions.{descriptor_at};
 ghost use Rattle.tk_query_locks.specs.steps.Holders.{AreListed, ConflictAt, HaveLists, IsCollision, IsFirstMet, IsLeastAt, IsMeeting, Keeps, LockIsListed, LockMeetsNone, Meet, MeetsNone, finish_of, under};
 
 use crate::conflicts::{Conflicts, GLOBAL};
+use crate::finishes::endless;
 use crate::lock_numbers::LockNumbers;
 use crate::start_lists::{StartLists, finish_at};
-use crate::stub::{Lock, LockMode, locks_of};
 use std::alloc::{AllocError, Global};
-use tk_ids::{Descriptor, Text};
+use tk_ids::{Descriptor, Lock, LockMode, Text};
+use tk_query::finishes_of;
+use tk_record::Events;
 
 /// The starts of executions that may not have finished: those that hold a lock for writing, and the
 /// others that use it, under the lock's number.
@@ -24,13 +28,37 @@ struct Running {
 /// The executions of a record, which may conflict over locks.
 #[derive(Drop)]
 pub(crate) struct Holders<'r> {
-    pub(crate) conflicts: Conflicts<'r>,
-    pub(crate) numbers: LockNumbers,
+    conflicts: Conflicts<'r>,
+    numbers: LockNumbers,
     // Under the position of each start that of its finish, and 0 elsewhere.
-    pub(crate) finishes: Vec<usize>,
+    finishes: Vec<usize>,
 }
 
 impl<'r> Holders<'r> {
+    /// Takes the executions of the events.
+    pub(crate) fn of(alloc: Global, events: &Events<'r>) -> Result<Holders<'r>, AllocError>
+        ensures conflicts { IfOk result (λ h. h.conflicts ≡ events.now.recorded) }
+        ensures finishes { IfOk result (λ h. AreFinishes events.now h.finishes.items) }
+    {
+        let record = events.record();
+        Ok(Holders {
+            conflicts: Conflicts::of(alloc, record)?,
+            numbers: LockNumbers::of(alloc, record.table())?,
+            finishes: finishes_of(alloc, events)?,
+        })
+    }
+
+    /// Lets each execution run past the end of the record, so that all overlap.
+    pub(crate) fn forget_finishes(&mut self, alloc: Global) -> Result<(), AllocError>
+        ensures conflicts { self.new.conflicts ≡ self.old.conflicts }
+        ensures finishes { OnOk result (AreEndless self.old.conflicts
+            self.old.finishes.items self.new.finishes.items) }
+    {
+        let finishes = endless(alloc, self.conflicts.record(), &self.finishes)?;
+        self.finishes = finishes;
+        Ok(())
+    }
+
     fn finish(&self, start: usize) -> usize
         ensures { result ≡ finish_of self.now start }
     {
@@ -128,7 +156,7 @@ impl<'r> Holders<'r> {
         let Some(descriptor) = self.descriptor(second) else {
             return false;
         };
-        for lock in locks_of(descriptor) {
+        for lock in descriptor.locks.as_slice() {
             if self.is_lock_held(running, lock, second) {
                 return true;
             }
@@ -137,6 +165,18 @@ impl<'r> Holders<'r> {
             return false;
         }
         self.some_meets(running.writers.starts(self.numbers.number(GLOBAL)), second)
+    }
+
+    /// The first execution that conflicts with one that starts at `second`, and has not finished
+    /// there. Only where one in the lists does are all that start before gone through.
+    fn met_at(&self, running: &Running, second: usize) -> Option<usize>
+        requires { AreListed self.now second running.now }
+        ensures { MatchOption result (MeetsNone self.now second) (IsFirstMet self.now second) }
+    {
+        if !self.is_held(running, second) {
+            return None;
+        }
+        self.first_met(second)
     }
 
     /// Adds the execution that starts at `second` to the lists of a lock that it holds.
@@ -186,7 +226,7 @@ impl<'r> Holders<'r> {
         let Some(descriptor) = self.descriptor(second) else {
             return Ok(());
         };
-        for lock in locks_of(descriptor) {
+        for lock in descriptor.locks.as_slice() {
             self.take(running, lock, second)?;
         }
         if self.conflicts.uses_global(descriptor) {
@@ -211,13 +251,11 @@ impl<'r> Holders<'r> {
     {
         let mut running = self.none_running(alloc)?;
         for second in 0..self.finishes.len() {
-            if self.finishes[second] == 0 {
+            if !self.runs_at(second, 0) {
                 continue;
             }
-            if self.is_held(&running, second) {
-                if let Some(first) = self.first_met(second) {
-                    return Ok(Some((first, second)));
-                }
+            if let Some(first) = self.met_at(&running, second) {
+                return Ok(Some((first, second)));
             }
             self.start(&mut running, second)?;
         }

@@ -11,7 +11,6 @@ mod lock_numbers;
 mod parents;
 mod questions;
 mod start_lists;
-mod stub;
 
 pub use answers::LockAnswer;
 pub use questions::locks;

@@ -2,7 +2,6 @@
 ghost use Rattle.std.specs.Prelude.{◌≡◌, ◌<◌, ℕ, List};
 ghost use Rattle.tk_query_locks.specs.steps.Numbers.{number_of};
 
-use crate::stub::locks_of;
 use indexmap::IndexSet;
 use std::alloc::{AllocError, Global};
 use tk_ids::{Descriptor, Table};
@@ -25,7 +24,7 @@ impl LockNumbers {
     }
 
     fn add(&mut self, alloc: Global, descriptor: &Descriptor) -> Result<(), AllocError> {
-        for lock in locks_of(descriptor) {
+        for lock in descriptor.locks.as_slice() {
             let name = lock.name.as_str();
             if !self.names.contains(name) {
                 self.names.insert(String::from_str(alloc, name)?)?;

@@ -3,12 +3,8 @@ ghost use Rattle.std.specs.Prelude.{IfOk};
 ghost use Rattle.tk_query_locks.specs.LockAnswers.{IsLockAnswer};
 
 use crate::answers::LockAnswer;
-use crate::conflicts::Conflicts;
-use crate::finishes::endless;
 use crate::holders::Holders;
-use crate::lock_numbers::LockNumbers;
 use std::alloc::{AllocError, Global};
-use tk_query::finishes_of;
 use tk_record::Events;
 
 /// Whether executions that conflict over a lock kept away from each other; `NoPair` where none
@@ -27,18 +23,15 @@ pub fn locks(alloc: Global, events: &Events) -> Result<LockAnswer, AllocError>
 {
     // For the proof: no event stands past the end of the record.
     let _flags = events.flags();
-    let record = events.record();
-    let mut holders = Holders {
-        conflicts: Conflicts::of(alloc, record)?,
-        numbers: LockNumbers::of(alloc, record.table())?,
-        finishes: finishes_of(alloc, events)?,
-    };
+    let mut holders = Holders::of(alloc, events)?;
     if let Some((first, second, name)) = holders.first_collision(alloc)? {
         return Ok(LockAnswer::No(first, second, name));
     }
-    holders.finishes = endless(alloc, record, &holders.finishes)?;
-    match holders.first_meeting(alloc)? {
-        Some(_) => Ok(LockAnswer::Yes),
-        None => Ok(LockAnswer::NoPair),
+    holders.forget_finishes(alloc)?;
+    let meeting = holders.first_meeting(alloc)?;
+    if meeting.is_some() {
+        Ok(LockAnswer::Yes)
+    } else {
+        Ok(LockAnswer::NoPair)
     }
 }

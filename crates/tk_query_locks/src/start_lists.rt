@@ -79,7 +79,7 @@ impl StartLists {
         ensures { IfOk result (λ lists. length lists ≡ count) }
     {
         let mut lists = Vec::new(alloc);
-        for _number in 0..count {
+        for number in 0..count {
             lists.push(Starts::new(alloc))?;
         }
         Ok(StartLists { lists })

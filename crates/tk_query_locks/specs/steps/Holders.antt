@@ -6,9 +6,9 @@ use Rattle.tk_ids.specs.declared.descriptors.Descriptor.{Descriptor}
 use Rattle.tk_events.specs.Event.{is_before}
 use Rattle.tk_record.specs.Recorded.{Recorded}
 use Rattle.tk_query_locks.specs.Conflicts.{ConflictOver, Uses, Writes}
-use Rattle.tk_query_locks.specs.declared.stub.LockMode.{LockMode}
-use Rattle.tk_query_locks.specs.declared.stub.LockMode.TheVariants.{Read, ReadWrite}
-use Rattle.tk_query_locks.specs.declared.stub.Lock.{Lock}
+use Rattle.tk_ids.specs.declared.locks.LockMode.{LockMode}
+use Rattle.tk_ids.specs.declared.locks.LockMode.TheVariants.{Read, ReadWrite}
+use Rattle.tk_ids.specs.declared.locks.Lock.{Lock}
 use Rattle.tk_query_locks.specs.declared.holders.Holders.{Holders}
 use Rattle.tk_query_locks.specs.declared.holders.Running.{Running}
 use Rattle.tk_query_locks.specs.steps.Numbers.{number_of}

@@ -1,7 +1,7 @@
 use Rattle.std.proofs.Common.{◌≡◌, ℕ, ◌<◌, get_or}
 use Rattle.tk_query_locks.specs.Conflicts.{lock}
-use Rattle.tk_query_locks.specs.declared.stub.Lock.{Lock}
-use Rattle.tk_query_locks.specs.declared.stub.LockMode.TheVariants.{ReadWrite}
+use Rattle.tk_ids.specs.declared.locks.Lock.{Lock}
+use Rattle.tk_ids.specs.declared.locks.LockMode.TheVariants.{ReadWrite}
 use Rattle.tk_query_locks.proofs.conflicts.writes.Given as goal
 
 abbrev pub invariant-loop-lock : goal.invariant-loop-lock

@@ -1,7 +1,7 @@
 use Rattle.std.proofs.Common.{ℕ, ◌<◌, get_or}
 use Rattle.std.specs.Prelude.{IfSome}
 use Rattle.tk_query_locks.specs.Conflicts.{ConflictOver, global_name}
-use Rattle.tk_query_locks.specs.declared.stub.Lock.{Lock}
+use Rattle.tk_ids.specs.declared.locks.Lock.{Lock}
 use Rattle.tk_query_locks.specs.steps.Conflicts.{IsAtMost}
 use Rattle.tk_query_locks.proofs.conflicts.Conflicts.least_lock.Given as goal
 

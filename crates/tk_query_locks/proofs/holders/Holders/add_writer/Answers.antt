@@ -3,8 +3,8 @@ use Rattle.std.specs.List.{Contains}
 use Rattle.tk_query_locks.specs.steps.Holders.{finish_of}
 use Rattle.tk_query_locks.proofs.holders.Holders.add_writer.Goals as goal
 
-pub returns-in_ok-push-clause-kept : goal.returns-in_ok-push-clause-kept
-returns-in_ok-push-clause-kept c =
+pub returns-clause-kept : goal.returns-clause-kept
+returns-clause-kept c =
     let h = c.args.self.now in
     let running = λ (p : ℕ) (lt : c.args.second < finish_of h p). subst (λ l. c.args.second < get_or l p 0) (sym c.deref.ensures.value) lt in
     let running2 = λ (p : ℕ) (lt : c.args.second < finish_of h p). subst (λ l. c.args.second < get_or l p 0) (sym c.deref-2.ensures.value) lt in
@@ -20,6 +20,6 @@ returns-in_ok-push-clause-kept c =
       };
     }
 
-pub returns-in_ok-push-clause-added : goal.returns-in_ok-push-clause-added
-returns-in_ok-push-clause-added c =
+pub returns-clause-added : goal.returns-clause-added
+returns-clause-added c =
     subst (λ n. Contains (get_or c.push.new.self n []) c.args.second) c.number-number.ensures c.in_ok-push.ensures.added

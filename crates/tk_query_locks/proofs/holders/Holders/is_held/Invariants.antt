@@ -1,5 +1,5 @@
 use Rattle.std.proofs.Common.{ℕ, ◌<◌, get_or}
-use Rattle.tk_query_locks.specs.declared.stub.Lock.{Lock}
+use Rattle.tk_ids.specs.declared.locks.Lock.{Lock}
 use Rattle.tk_query_locks.specs.steps.Holders.{LockMeetsNone}
 use Rattle.tk_query_locks.proofs.holders.Holders.is_held.Given as goal
 

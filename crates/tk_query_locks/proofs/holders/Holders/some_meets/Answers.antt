@@ -1,5 +1,6 @@
-use Rattle.std.proofs.Common.{arith, sym, ◌∙◌}
+use Rattle.std.proofs.Common.{arith, get_or, sym, ◌∙◌}
 use Rattle.std.proofs.lemmas.Bool.{false≢true}
+use Rattle.std.proofs.lemmas.List.{get_or_default}
 use Rattle.tk_query_locks.specs.steps.Holders.{Meet}
 use Rattle.tk_query_locks.proofs.ConflictLemmas.{at_place, each_more}
 use Rattle.tk_query_locks.proofs.holders.Holders.some_meets.Goals as goal
@@ -10,7 +11,9 @@ loop-first-init c = λ i d lt. absurd (omega arith)
 pub loop-first-preserved : goal.loop-first-preserved
 loop-first-preserved c =
     each_more (λ n. ¬ Meet c.args.self.now n c.args.second) c.args.starts.now c.loop-first.first-index
-    c.first-item.result c.first-item.is c.loop-first-test.true c.loop-first.invariant
+    (get_or c.args.starts.now c.loop-first.first-index 0)
+    (get_or_default c.args.starts.now c.loop-first.first-index 0 (get_or c.args.starts.now c.loop-first.first-index 0) c.loop-first-test.true)
+    c.loop-first-test.true c.loop-first.invariant
     (λ met. false≢true (sym c.if-meet.false ∙ c.meet.ensures.1 met))
 
 pub returns : goal.returns

@@ -4,8 +4,8 @@ use Rattle.std.proofs.lemmas.List.{get_or_default, get_or-set_same}
 use Rattle.tk_query_locks.proofs.StartLemmas.{list_changed}
 use Rattle.tk_query_locks.proofs.start_lists.StartLists.push.Goals as goal
 
-pub returns-in_ok-push-clause-kept : goal.returns-in_ok-push-clause-kept
-returns-in_ok-push-clause-kept c = λ n p has.
+pub returns-clause-kept : goal.returns-clause-kept
+returns-clause-kept c = λ n p has.
     let lists = c.self.inside.lists.items in
     let within = subst (λ l. c.args.number < length l) (sym c.self.view_is) c.requires in
     let row = c.index_mut.ensures.value ∙ get_or_default lists c.args.number c.index_mut.result.now [] within in
