@@ -171,11 +171,7 @@ returns-in_err-innermost-clause-refused g c =
     let p = err_from_is_err_and c.from_residual.result c.from_residual.ensures.1 in
     rw (p.1, p.2) (left_same _ _ (child_start c.args.child.now c.args.registered
     (λ key. event Skipped key c.args.stamp c.args.reason)) _
-    (λ fault is. own_is_other (sym c.in_err-innermost.ensures.order ∙ is))
-    (same_view _ _ (ap (λ (v : UnitView). v.sink) c.self.view_is)
-    (ap (λ (v : UnitView). v.running) c.self.view_is)
-    (ap (λ (v : UnitView). v.stamp) c.self.view_is)
-    (ap (λ (v : UnitView). v.own_stamp) c.self.view_is)))
+    (λ fault is. own_is_other (sym c.in_err-innermost.ensures.order ∙ is)) refl)
 
 pub returns-in_err-key-clause-refused : goal.returns-in_err-key-clause-refused
 returns-in_err-key-clause-refused g c =
