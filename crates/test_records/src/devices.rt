@@ -1,9 +1,7 @@
 //! Reading and writing a record by a device that passes one byte a call and breaks at some call, at
 //! each call in turn.
 use std::alloc::Global;
-use test_support::{
-    OneByteSource, OneByteTarget, is_cut, record_of, two_locked_tests, two_tests,
-};
+use test_support::{OneByteSource, OneByteTarget, is_cut, record_of, two_locked_tests, two_tests};
 use tk_record::Record;
 use tk_record_text::{ReadFault, read_record, write_record};
 
