@@ -1,5 +1,7 @@
 -- Finishes that are never reached.
 use Rattle.std.proofs.Common.{◌≡◌, ℕ, zero, suc, ◌<◌, ◌≤◌, Bool, true, false, List, [], ◌∷◌, get_or, length, map, refl, sym, ap, ◌∙◌, subst, arith}
+use Rattle.std.specs.Prelude.{if◌then◌else◌}
+use Rattle.std.proofs.lemmas.Bool.{ne_eqb}
 use Rattle.tk_record.specs.Recorded.{Recorded}
 use Rattle.tk_query_locks.specs.steps.Finishes.{AreEndless, never}
 
@@ -9,8 +11,8 @@ never_at (x ∷ finishes) zero = refl
 never_at (x ∷ finishes) (suc p) = never_at finishes p
 
 never_some : (n : ℕ) → 0 < n → never n ≡ 18446744073709551615
-never_some zero lt = absurd (omega arith)
-never_some (suc n) lt = refl
+never_some n lt =
+    ap (λ b. if b then 0 else 18446744073709551615) (ne_eqb n 0 (λ same. omega (arith, same, lt)))
 
 none_never : (n : ℕ) → 0 < never n → 0 < n
 none_never zero lt = lt

@@ -12,13 +12,11 @@ use Rattle.tk_record.specs.Entries.{desc}
 use Rattle.tk_record.specs.Recorded.{Recorded}
 use Rattle.tk_record.specs.Selections.{Selected}
 use Rattle.tk_query.specs.declared.execution.Execution.{Execution}
-use Rattle.tk_query.specs.declared.execution_steps.Transition.{Transition}
-use Rattle.tk_query.specs.declared.execution_steps.ExecutionStep.{ExecutionStep}
-use Rattle.tk_query.specs.Asked.{event_at}
-use Rattle.tk_query.specs.ExecutionSteps.{step_at, step_of, transition_of, with_transition}
+use Rattle.tk_query.specs.ExecutionSteps.{step_at}
 use Rattle.tk_query.specs.Executions.{IsSpan}
 use Rattle.tk_query.specs.steps.Holders.{AreFinishes}
-use Rattle.tk_query.proofs.AskedLemmas.{AreFlags, asked_set, step_clear}
+use Rattle.tk_query.proofs.AskedLemmas.{AreFlags}
+use Rattle.tk_query.proofs.SpanKeys.{span_key}
 use Rattle.tk_query_locks.specs.declared.answers.LockAnswer.{LockAnswer}
 use Rattle.tk_query_locks.specs.declared.answers.LockAnswer.TheVariants.{Yes, No, NoPair}
 use Rattle.tk_query_locks.specs.declared.holders.Holders.{Holders}
@@ -31,24 +29,6 @@ use Rattle.tk_query_locks.proofs.DescentLemmas.{apart_swap, not_apart_itself}
 use Rattle.tk_query_locks.proofs.ParentLemmas.{place_within}
 
 -- ---- the descriptors of executions
-
-key_there : (es : List Entry) (i : ℕ) (e : Entry) → slice_get es i ≡ Some e → slice_get (map (λ (x : Entry). x.event.key) es) i ≡ Some e.event.key
-key_there [] i e at = absurd (none-some e at)
-key_there (x ∷ es) zero e at = ap (λ (y : Entry). Some y.event.key) (same_Some x e at)
-key_there (x ∷ es) (suc i) e at = key_there es i e at
-
-step_key : (e : Entry) (o : Option Transition) (a : ExecutionStep) → with_transition e o ≡ Some a → e.event.key ≡ a.key
-step_key e None a is = absurd (none-some a is)
-step_key e (Some t) a is =
-    let made : ExecutionStep = record { key = e.event.key; stamp = e.event.stamp; transition = t } in
-    ap (λ (s : ExecutionStep). s.key) (same_Some made a is)
-
-key_of_step : (es : List Entry) (i : ℕ) (a : ExecutionStep) → option_and_then step_of (slice_get es i) ≡ Some a → slice_get (map (λ (x : Entry). x.event.key) es) i ≡ Some a.key
-key_of_step es i a is = by (slice_get es i) refl is
-  where
-    by : (o : Option Entry) → slice_get es i ≡ o → option_and_then step_of o ≡ Some a → slice_get (map (λ (x : Entry). x.event.key) es) i ≡ Some a.key
-    by None at none = absurd (none-some a none)
-    by (Some e) at some = key_there es i e at ∙ ap (λ k. Some k) (step_key e (transition_of e.event.kind e.event.payload) a some)
 
 -- a descriptor of an entry stands within the record
 pub entry_within : (r : Recorded) (p : ℕ) (d : Descriptor) → descriptor_at r p ≡ Some d → p < length r.entries
@@ -76,14 +56,7 @@ not_itself r name a b over same = not_apart_itself a.id b.id (ap (λ (d : Descri
 module _ (asked : Selected) (flags : List Bool) (are_flags : AreFlags asked flags) where
   -- the descriptor of the entry at a start is that of the execution
   pub span_at : (x : Execution) → IsSpan (step_at asked) x → descriptor_at asked.recorded x.first ≡ desc asked.recorded x.key
-  span_at x span = ap (option_and_then (desc asked.recorded)) (by (get_or flags x.first false) refl)
-    where
-      by : (b : Bool) → get_or flags x.first false ≡ b → key_at asked.recorded x.first ≡ Some x.key
-      by true set =
-          key_of_step asked.recorded.entries x.first _
-          (ap (option_and_then step_of) (sym (asked_set asked flags are_flags x.first set)) ∙ span.starts)
-      by false clear =
-          absurd (none-some _ (sym (step_clear asked flags are_flags x.first clear) ∙ span.starts))
+  span_at x span = ap (option_and_then (desc asked.recorded)) (span_key asked flags are_flags x span)
 
   swap : (name : List ℕ) (x y : Execution) → Conflict asked name x y → Conflict asked name y x
   swap name x y c = record {
