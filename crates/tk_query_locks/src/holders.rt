@@ -196,7 +196,8 @@ impl<'r> Holders<'r> {
     fn add_reader(&self, running: &mut Running, name: &str, second: usize) -> Result<(), AllocError>
         requires { HaveLists self.now running.old }
         ensures kept { OnOk result (Keeps self.now second running.old running.new) }
-        ensures added { OnOk result (Contains (under self.now running.new.readers name.now) second) }
+        ensures added { OnOk result
+            (Contains (under self.now running.new.readers name.now) second) }
     {
         let number = self.numbers.number(name);
         running.writers.forget(number, &self.finishes, second);
@@ -209,7 +210,8 @@ impl<'r> Holders<'r> {
     fn add_writer(&self, running: &mut Running, name: &str, second: usize) -> Result<(), AllocError>
         requires { HaveLists self.now running.old }
         ensures kept { OnOk result (Keeps self.now second running.old running.new) }
-        ensures added { OnOk result (Contains (under self.now running.new.writers name.now) second) }
+        ensures added { OnOk result
+            (Contains (under self.now running.new.writers name.now) second) }
     {
         let number = self.numbers.number(name);
         running.writers.forget(number, &self.finishes, second);

@@ -108,7 +108,8 @@ IsListedAs ReadWrite writers readers p = Contains writers p
 
 -- the execution that starts at p stands under the number of a lock that it holds
 abbrev pub LockIsListed : Holders → Running → Lock → ℕ → Type 0
-LockIsListed h running lock p = IsListedAs lock.mode (under h running.writers lock.name) (under h running.readers lock.name) p
+LockIsListed h running lock p =
+    IsListedAs lock.mode (under h running.writers lock.name) (under h running.readers lock.name) p
 
 -- none under the number of a lock, and no writer, meets the execution that starts at q and holds it
 pub record LockMeetsNone (h : Holders) (running : Running) (lock : Lock) (q : ℕ) : Type 0 where
