@@ -21,9 +21,7 @@ use crate::report_differences::difference;
 use crate::uncounted_events::uncounted_events;
 use std::alloc::{AllocError, Global};
 use testkit_questions::{Mode, explain_match, read_conditions, read_expectations};
-use tk_explanations::{
-    explain_exclusive, explain_lifecycle, explain_locks, explain_statistics,
-};
+use tk_explanations::{explain_exclusive, explain_lifecycle, explain_locks, explain_statistics};
 use tk_query_conditions::Condition;
 use tk_record::{Events, Expected, Record, Selection};
 use tk_report_text::write_report_of;
