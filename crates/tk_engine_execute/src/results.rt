@@ -108,6 +108,7 @@ impl Results {
     pub fn locks(&self, alloc: Global) -> Result<LockAnswer, AllocError>
         ensures { IfOk result (IsLockAnswer (all_of self.now.recorded)) }
     {
-        locks(alloc, &self.all_events(alloc)?)
+        let events = self.all_events(alloc)?;
+        locks(alloc, &events)
     }
 }
