@@ -76,7 +76,8 @@ fn add_below(
         }
         LockAnswer::NoPair => {
             let list = executions(alloc, events)?;
-            add_holding(alloc, rows, events.record(), &list)
+            add_holding(alloc, rows, events.record(), &list)?;
+            Ok(())
         }
     }
 }
