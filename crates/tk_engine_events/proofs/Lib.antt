@@ -1,2 +1,3 @@
 pub mod Emissions
 mod LentSinks
+mod LockedTables
