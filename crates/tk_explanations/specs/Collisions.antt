@@ -51,6 +51,10 @@ overlap_rows x y overlap =
     overlap ∷ Event x.first Nothing ∷ Event y.first Nothing
     ∷ Event (min x.last y.last) Nothing ∷ Event (max x.last y.last) Nothing ∷ []
 
+-- what is said of two executions that overlap, and of which of them is a writer's
+abbrev pub collision_rows : Execution → Execution → Writers → List Row
+collision_rows x y said = overlap_rows x y (Overlap x y said)
+
 -- whether the execution is a start and a finish, and the condition holds of its start
 abbrev pub is_held : Selected → Condition → Execution → Bool
 is_held asked c x = has_started x && fits asked c x.first
@@ -73,7 +77,7 @@ module _ (asked : Selected) (writers readers : Condition) where
   AreCollisionRows (No p q) rows =
       (x : Execution) × (y : Execution)
       × StartsAt asked p x × StartsAt asked q y
-      × (rows ≡ overlap_rows x y (Overlap x y (writers_said asked writers readers p q)))
+      × (rows ≡ collision_rows x y (writers_said asked writers readers p q))
   AreCollisionRows NoPair rows =
       (xs : List Execution) × AreExecutions (step_at asked) xs
       × (rows ≡ holder_rows asked xs writers readers)
