@@ -1,5 +1,5 @@
 -- How judging conditions follows from judging an answer.
-use Rattle.std.proofs.Common.{◌≡◌, ◌++◌, ◌∷◌, [], ℕ, suc, Bool, List, Ok, Err, refl, ap, length}
+use Rattle.std.proofs.Common.{◌≡◌, ◌++◌, ◌∷◌, [], ℕ, suc, Bool, List, Ok, Err, refl, sym, subst, ap, length}
 use Rattle.std.specs.Prelude.{Result, IfErr}
 use Rattle.tk_query_conditions.specs.declared.conditions.Condition.{Condition}
 use Rattle.testkit_questions.specs.Characters.{blank}
@@ -8,7 +8,7 @@ use Rattle.tk_expectations.specs.declared.expectations.Expect.{Expect}
 use Rattle.tk_expectations.specs.declared.failures.Failure.{Failure}
 use Rattle.tk_expectations.specs.declared.failures.Failure.TheVariants as failures
 use Rattle.tk_expectations.specs.Expectations.{IsJudged, OfHolders, RefusesConditions}
-use Rattle.tk_expectations.specs.steps.Judged.{IsAsked}
+use Rattle.tk_expectations.specs.steps.Judged.{IsAsked, IsJudgedBy}
 
 pub as_many : (texts : List (List ℕ)) (cs : List Condition) → AreConditions texts cs
     → length cs ≡ length texts
@@ -16,6 +16,17 @@ as_many [] [] h = refl
 as_many [] (c ∷ cs) h = absurd h
 as_many (t ∷ texts) [] h = absurd h
 as_many (t ∷ texts) (c ∷ cs) h = ap suc (as_many texts cs h.1)
+
+-- what is answered is judged
+pub judged : (e : Expect) (Answers : Bool → List ℕ → Type 0) (is_yes : Bool) (text : List ℕ)
+    (result : Result Expect Failure)
+    → Answers is_yes text → IsJudgedBy e is_yes text result → IsJudged e Answers result
+judged e Answers is_yes text (Ok next) a h = (h.0, text, subst (λ b. Answers b text) h.1 a)
+judged e Answers is_yes text (Err (failures.Unmet u)) a h =
+    subst (λ b. Answers b u.explanation.bytes) h.0 (subst (Answers is_yes) (sym h.1) a)
+judged e Answers is_yes text (Err (failures.Condition fault shown)) a h = absurd h
+judged e Answers is_yes text (Err (failures.Word at shown)) a h = absurd h
+judged e Answers is_yes text (Err (failures.Fault fault)) a h = tt
 
 -- what is judged of two conditions is judged of the texts that they spell
 pub judged_holders : (e : Expect) (texts : List (List ℕ)) (writers readers : Condition)
