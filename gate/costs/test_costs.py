@@ -278,9 +278,6 @@ EVENTS = repeated(RECORD, "E|1|0|7|start\nE|1|0|8|finish|ok\n")
 FAILING = repeated(RECORD, "E|1|0|7|start\nE|1|0|8|finish|ok\n", "E|1|0|9|finish|fail|boom\n")
 FAILURES = repeated(RECORD, "E|1|0|7|start\nE|1|0|8|finish|ok\n", "E|1|0|9|finish|fail|boom\n" * 1_000)
 STARTS = repeated(RECORD, "E|1|0|7|start\n")
-UNCOUNTED = Costs(3, 0, 0, 0, 0)
-"""The limit of a row that wasn't counted yet: no run keeps it."""
-
 NEVER_FINISHED = repeated(RECORD + 2 * "E|1|0|7|start\nE|1|0|8|finish|ok\n", "E|1|0|7|start\n")
 LONG_REASON = repeated(RECORD + "E|1|0|7|skip|", "x", "\n")
 SHORT_STAMPS = [repeated(RECORD, f"E|1|0|{7 * 10**17}|{tail}\n") for tail in ("start", "finish|fail|boom")]
@@ -317,13 +314,13 @@ ROWS = [
     row("record/exclusive of 65,000 readers side by side", "ask exclusive engine test", tests_side_by_side, Costs(0.8, 49_400, 391_000, 312, 2), "yes\n"),
     row("record/exclusive of starts that never finish", "ask exclusive test", NEVER_FINISHED, Costs(0.8, 61_000, 210, 312, 2), "yes\n"),
     row("record/executions of tests", "ask executions tests", EVENTS, Costs(0.8, 49_400, 210, 312, 153), "0 succeeded 7 8\n"),
-    row("record/locks, none", "ask locks", EVENTS, UNCOUNTED, "no pair\n"),
-    row("record/locks, 20,000 readers of one", "ask locks", one_lock_read, UNCOUNTED, "yes\n"),
-    row("record/locks, 4,000 of sixteen tests each", "ask locks", many_locks, UNCOUNTED, "yes\n"),
-    row("record/locks, 4,000 of each of 100 tests", "ask locks", many_locks_of_each, UNCOUNTED, "no pair\n"),
-    row("record/locks, global beside 60,000 tests", "ask locks", one_global, UNCOUNTED, "yes\n"),
-    row("record/locks, global and another above 60,000 tests", "ask locks", locks_above, UNCOUNTED, "no pair\n"),
-    row("record/locks of starts that never finish", "ask locks", held_and_never_finished, UNCOUNTED, "yes\n"),
+    row("record/locks, none", "ask locks", EVENTS, Costs(0.7, 44_500, 190, 258, 2), "no pair\n"),
+    row("record/locks, 20,000 readers of one", "ask locks", one_lock_read, Costs(0.4, 26_800, 120_260, 240, 2), "yes\n"),
+    row("record/locks, 4,000 of sixteen tests each", "ask locks", many_locks, Costs(0.7, 36_300, 398_730, 232, 2), "yes\n"),
+    row("record/locks, 4,000 of each of 100 tests", "ask locks", many_locks_of_each, Costs(0.7, 44_000, 544_400, 258, 2), "no pair\n"),
+    row("record/locks, global beside 60,000 tests", "ask locks", one_global, Costs(0.6, 33_400, 288_280, 246, 2), "yes\n"),
+    row("record/locks, global and another above 60,000 tests", "ask locks", locks_above, Costs(0.7, 36_700, 432_320, 239, 2), "no pair\n"),
+    row("record/locks of starts that never finish", "ask locks", held_and_never_finished, Costs(0.7, 71_900, 210, 258, 2), "yes\n"),
     row("record/list of all", "ask list all", EVENTS, Costs(0.8, 25_000, 190, 312, 442), "0 E|1|0|7|start\n1 E|1|0|8|finish|ok\n"),
     row("record/list by 100 conditions", "ask list all" + 99 * " started" + " not(started)", EVENTS, Costs(0.8, 25_000, 570, 312, 0), ""),
     row("record/lifecycle of 65,000 tests", "ask lifecycle", tests_of_an_engine, Costs(1.5, 29_300, 469_000, 285, 2), "yes\n"),
