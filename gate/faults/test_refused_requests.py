@@ -30,15 +30,15 @@ from tables.texts import DEMO_PLAN, SMALL_REPLAY, TWO_TESTS
 TIME_LIMIT = 60
 """How many seconds a run may take: far more than any needs."""
 
-KEPT_BY_RUN = 30
+KEPT_BY_RUN = 32
 """How many blocks of memory the record of the demo plan's run has, with any number of workers.
 
 The program keeps them at its end, when the system takes all at once: to free the whole run one by one took up to a fifth of its time. The
-plan is freed before. Its texts have at most 16 bytes, so that they stand in their values.
+plan is freed before. Its texts have at most 16 bytes, so that they stand in their values; its one lock has a list of its own, of two blocks.
 """
 
-KEPT_LONG = KEPT_BY_RUN + 10
-"""The same of `LONG_PLAN`, whose eight names, reason and message have blocks of their own."""
+KEPT_LONG = KEPT_BY_RUN + 11
+"""The same of `LONG_PLAN`, whose eight names, lock, reason and message have blocks of their own."""
 
 MOST_REQUESTS = 5_000
 """How many requests of a kind a run makes at most."""
