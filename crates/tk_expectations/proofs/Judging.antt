@@ -1,7 +1,9 @@
 -- How judging conditions follows from judging an answer.
-use Rattle.std.proofs.Common.{◌≡◌, ◌++◌, ◌∷◌, [], ℕ, suc, Bool, List, Ok, Err, refl, sym, subst, ap, length}
+use Rattle.std.proofs.Common.{◌≡◌, ◌++◌, ◌∷◌, [], ℕ, suc, Bool, List, Ok, Err, Some, refl, sym, ◌∙◌, subst, ap, length}
 use Rattle.std.specs.Prelude.{Result, IfErr}
 use Rattle.tk_query_conditions.specs.declared.conditions.Condition.{Condition}
+use Rattle.tk_explanations.specs.declared.faults.ExplainFault.{ExplainFault}
+use Rattle.tk_explanations.specs.Explained.{IsExplained}
 use Rattle.testkit_questions.specs.Characters.{blank}
 use Rattle.testkit_questions.specs.Questions.{AreConditions, AreHolders}
 use Rattle.tk_expectations.specs.declared.expectations.Expect.{Expect}
@@ -16,6 +18,15 @@ as_many [] [] h = refl
 as_many [] (c ∷ cs) h = absurd h
 as_many (t ∷ texts) [] h = absurd h
 as_many (t ∷ texts) (c ∷ cs) h = ap suc (as_many texts cs h.1)
+
+-- what is written into an empty target is the explanation
+pub explained : (Explains : Bool → List ℕ → Type 0) (old new : List ℕ) (is_yes : Bool)
+    (result : Result Bool ExplainFault)
+    → old ≡ [] → result ≡ Ok is_yes → IsExplained Explains (Some old) (Some new) result
+    → Explains is_yes new
+explained Explains old new is_yes result none is h =
+    let w = subst (IsExplained Explains (Some old) (Some new)) is h in
+    subst (Explains is_yes) (sym (w.2 ∙ ap (λ l. l ++ w.0) none)) w.1
 
 -- what is answered is judged
 pub judged : (e : Expect) (Answers : Bool → List ℕ → Type 0) (is_yes : Bool) (text : List ℕ)
