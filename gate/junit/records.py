@@ -6,7 +6,7 @@ from dataclasses import dataclass
 from itertools import zip_longest
 from typing import Dict, List, Optional, Sequence, Tuple
 
-HEADER = "testkit-record|2"
+HEADER, HEADER_WITH_LOCKS = "testkit-record|2", "testkit-record|3"
 ENTRY = re.compile(r"E\|([0-9]+)\|([0-9]+)\|([0-9]+)\|(.*)", re.DOTALL)
 FIRST_KEYS = 65_536
 """How many keys there are of static descriptors, and of each worker's registrations."""

@@ -58,7 +58,7 @@ class WithClasses(unittest.TestCase):
 
 @java.needs_junit
 class OfCases(WithClasses):
-    """The cases of ListenerCases and KitCases."""
+    """The cases of ListenerCases, LockCases and KitCases."""
 
     @classmethod
     def setUpClass(cls):
@@ -67,6 +67,7 @@ class OfCases(WithClasses):
         groups = cases.expected()
         cls.play("ListenerCases", *(case.name for case in groups["texts"] + groups["runs"]), "crowd")
         cls.play("ListenerCases", *(case.name for case in cases.limits()))
+        cls.play("LockCases", *(case.name for case in groups["locks"]))
         cls.play("KitCases", *(case.name for case in groups["kit"]))
         cls.play("ListenerCases", "full-disk", most_bytes=FULL)
         cls.play("ListenerCases", "full-at-once", most_bytes=len(HEADER) // 2)

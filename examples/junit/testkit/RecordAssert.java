@@ -157,6 +157,14 @@ public final class RecordAssert {
         return ask("yes", 2, question(new String[] {writers, readers}, "explain", "exclusive"));
     }
 
+    /**
+     * Asserts that there are two executions that no lock in the record lets run at once, and no two of these overlap. A record has the locks
+     * of engines whose descriptors are JUnit's {@code Node}, as Jupiter's are.
+     */
+    public RecordAssert keepsLocks() {
+        return ask("yes", 0, "explain", "locks");
+    }
+
     /** Asserts that the condition holds of so many events. */
     public RecordAssert hasCount(long count, String condition) {
         List<String> found = list(condition);
