@@ -158,8 +158,8 @@ public final class RecordAssert {
     }
 
     /**
-     * Asserts that there are two executions that no lock in the record lets run at once, and no two of these overlap. A record has the locks
-     * of engines whose descriptors are JUnit's {@code Node}, as Jupiter's are.
+     * Asserts that there are two executions that conflict over a lock, and no two of these overlap. The locks are those in the record: of
+     * Jupiter's {@code @ResourceLock} and {@code @Isolated}, and of each other engine whose descriptors are JUnit's {@code Node}.
      */
     public RecordAssert keepsLocks() {
         return ask("yes", 0, "explain", "locks");

@@ -26,7 +26,7 @@ import org.junit.platform.launcher.TestPlan;
  *
  * <p>A listener gets identifiers, which don't tell locks; a filter gets the descriptors. Those of an engine built on JUnit's
  * {@code HierarchicalTestEngine}, as Jupiter is, are {@link Node}s, which are asked when a run begins that is recorded. Other descriptors
- * tell no lock. JUnit finds this class as a service; a launcher without these takes it by {@code addPostDiscoveryFilters}.
+ * tell no lock. JUnit finds this class as a service. A launcher that looks for none needs it by {@code addPostDiscoveryFilters}.
  */
 public final class RecordLocks implements PostDiscoveryFilter {
 
@@ -40,7 +40,7 @@ public final class RecordLocks implements PostDiscoveryFilter {
     @Override
     public FilterResult apply(TestDescriptor descriptor) {
         try {
-            // (of the root itself nobody may hear, where a filter before this one excludes it)
+            // (this filter doesn't see what one before it excludes, as a root with a test may be)
             keep(root(descriptor));
         } catch (Throwable fault) {
             // (whatever it is: JUnit asks a descriptor for its parent too, and says so where it can't be had)

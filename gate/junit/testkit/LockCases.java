@@ -143,8 +143,9 @@ public class LockCases {
         second.execute(plans[1], new RecordListener(room.path() + ".second"));
     }
 
-    /** A launcher without the filter, a descriptor whose locks can't be had, and one whose parent can't. */
-    private static void unknownLocks(Room room) {
+    /** Descriptors that declare no lock; a launcher without the filter; descriptors whose locks, or whose parent, can't be had. */
+    private static void noLocks(Room room) {
+        launch(room, new RecordListener(room.path()), root -> Locking.below(root, "1"), new RecordLocks());
         Tree tree = root -> Locking.below(root, "1").lock("db", READ);
         launch(room, new RecordListener(room.path() + ".unfiltered"), tree);
         launch(room, new RecordListener(room.path() + ".failing"), root -> {
