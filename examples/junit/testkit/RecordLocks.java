@@ -40,7 +40,7 @@ public final class RecordLocks implements PostDiscoveryFilter {
     @Override
     public FilterResult apply(TestDescriptor descriptor) {
         try {
-            // (this filter doesn't see what one before it excludes, as a root with a test may be)
+            // (JUnit doesn't show this filter what an earlier one excludes, as a root that stays for the sake of a test)
             keep(root(descriptor));
         } catch (Throwable fault) {
             // (whatever it is: JUnit asks a descriptor for its parent too, and says so where it can't be had)

@@ -12,7 +12,7 @@ import org.junit.jupiter.api.parallel.Isolated;
 import org.junit.jupiter.api.parallel.ResourceLock;
 import org.junit.jupiter.api.parallel.Resources;
 
-/** Tests with the locks of Jupiter, which run in parallel; of those with a tag their classes have none. */
+/** Tests with the locks of Jupiter, which run in parallel. Most have a tag, which their classes don't have. */
 @Execution(CONCURRENT)
 class LockTests {
 
