@@ -46,7 +46,9 @@ struct Counted<'c> {
 
 impl Tests for Counted<'_> {
     fn run<C: Context>(&self, _key: u32, test: &mut Reporter<C>) -> Result<Outcome, UnitFault> {
-        *self.runs.lock(test.rt()) += 1;
+        let mut runs = self.runs.lock(test.rt());
+        *runs = runs.saturating_add(1);
+        drop(runs);
         if self.fails {
             Err(UnitFault::Own(7))
         } else {

@@ -15,7 +15,9 @@ struct EachKind {
 
 impl Units for EachKind {
     fn run<C: UnitContext>(&self, _unit: u32, events: &mut Emitter<C>) -> Result<(), UnitFault> {
-        *self.runs.lock(events.rt()) += 1;
+        let mut runs = self.runs.lock(events.rt());
+        *runs = runs.saturating_add(1);
+        drop(runs);
         events.start(1)?;
         let first = events.register(1, ("case", "0"), "zero", DType::Test)?;
         events.start(first)?;
