@@ -526,7 +526,7 @@ def faults_of(row: Row, costs: Costs, status: int, wrote: str) -> List[str]:
 
 
 MOST_RUNS = 3
-"""How often a row is run at most that is only too slow: a busy machine makes a run slower, and none faster."""
+"""How often a row is run, and a pair is measured, at most that is only too slow: a busy machine makes a run slower, and none faster."""
 
 
 def faults_of_runs(row: Row, run: Callable[[], Tuple[Costs, int, str]]) -> List[str]:
@@ -569,7 +569,11 @@ class OfTheProgram(WithProgram, WithCounts):
 
     @parameterized(BESIDE)
     def test_beside(self, pair):
-        ratio = pair.ratio(PROGRAM, folder(self))
+        ratio = math.inf
+        for _ in range(MOST_RUNS):
+            ratio = min(ratio, pair.ratio(PROGRAM, folder(self)))
+            if ratio <= pair.most:
+                break
         if fixtures.CHOSEN:
             print(f"{pair.name}: {ratio:.2f} times")
         self.assertLessEqual(ratio, pair.most)
