@@ -1,8 +1,8 @@
 #!/usr/bin/env -S python3 -B
 """Times `run` with 1, 2 and 4 workers on three plans beside a plain Rust program that does the same.
 
-It wants cargo and Debian's librust-serde-json-dev, and leaves nothing behind. The reports of both have to be the same. Each line: workers; seconds of processor time and by
-the clock, medians of five runs in turn; the ratios plain / ours (above 1 we are faster); the most memory.
+It wants cargo and Debian's librust-serde-json-dev, and leaves nothing behind. The reports of both have to be the same. Each line: workers;
+seconds of processor time and by the clock, medians of five runs in turn; the ratios plain / ours (above 1 we are faster); the most memory.
 """
 
 import filecmp
