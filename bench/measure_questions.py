@@ -28,7 +28,7 @@ class Row:
     def measured(self, program: str, folder: str) -> str:
         commands = [[program, "ask", *words] for words in (self.question, self.other or ["count", "all"])]
         ours, theirs = timing.take(commands, f"{folder}/{self.record}", folder)
-        if not ours.begins().startswith(self.begins) or (self.other and not theirs.begins().startswith("yes")):
+        if not ours.begins().startswith(self.begins) or (self.other and theirs.begins().startswith(("no", "testkit: "))):
             raise building.NotMeasured(f"{self.title}: the answers are {ours.begins()!r} and {theirs.begins()!r}")
         return (
             f"{self.title}, {self.record}: processor {ours.processor:.3f} s beside {theirs.processor:.3f} s, ratio {ours.over(theirs)}"
@@ -54,6 +54,7 @@ ROWS = [
     Row("explained in-order, 1,000 conditions, beside their match", "large", ["explain", *IN_ORDER[1:]], "yes 1 641 ", 3, IN_ORDER),
     Row("executions", "large", ["executions"], "0 failed 0 1\n", 1.3),
     Row("exclusive", "large", ["exclusive", "any(name(test 1),name(test 2))", "test"], "yes\n", 1.3, ["executions"]),
+    Row("locks", "locked", ["locks"], "yes\n", 1.5, ["executions"]),
 ]
 for record in ("tree", "one_test", "one_parent"):
     ROWS += [

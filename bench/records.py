@@ -85,6 +85,12 @@ def many_tests() -> Iterator[str]:
     yield from (f"E|1|{key}|{2 * number}|start\nE|1|{key}|{2 * number + 1}|finish|ok\n" for number, key in enumerate(tests))
 
 
+def locked() -> Iterator[str]:
+    """The record of `many_tests`, in which each of 65,000 descriptors holds one of 4,000 locks."""
+    nodes, mark, events = "".join(many_tests()).replace("record|2", "record|3").partition("E|")
+    return iter([nodes, *(f"L|{key}|{'RW'[key % 7 == 0]}|lock {key % 4_000}\n" for key in range(1, 65_001)), mark, events])
+
+
 RECORDS: Dict[str, Callable[[], Iterator[str]]] = {
     "large": large,
     "tree": tree,
@@ -93,6 +99,7 @@ RECORDS: Dict[str, Callable[[], Iterator[str]]] = {
     "one_segment": lambda: many_events(""),
     "two_segments": lambda: many_events("[engine:e]"),
     "many_tests": many_tests,
+    "locked": locked,
 }
 
 

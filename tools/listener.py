@@ -10,9 +10,13 @@ import zipfile
 from typing import Dict
 
 SOURCES = "examples/junit"
-LISTENER = ("RecordListener", "RecordFile", "ResultsWriter", "RecordAssert", "RecordSource", "ResultsAssert")
+LISTENER = ("RecordListener", "RecordLocks", "RecordFile", "ResultsWriter", "RecordAssert", "RecordSource", "ResultsAssert")
 """What the jar has: the listener, what writes the results of EngineTestKit, and the assertions of a record."""
-SERVICE = "META-INF/services/org.junit.platform.launcher.TestExecutionListener"
+SERVICES = {
+    "META-INF/services/org.junit.platform.launcher.TestExecutionListener": b"testkit.RecordListener\n",
+    "META-INF/services/org.junit.platform.launcher.PostDiscoveryFilter": b"testkit.RecordLocks\n",
+}
+"""The files by which JUnit finds the listener, and the filter that has the locks."""
 JAR = "testkit-listener.jar"
 JUNIT = ("junit-platform-commons", "junit-platform-engine", "junit-platform-launcher", "opentest4j", "apiguardian-api")
 JARS = [f"/usr/share/java/{it}.jar" for it in JUNIT]
@@ -65,7 +69,7 @@ def make_jar(files: Dict[str, bytes]) -> bytes:
     entries = {
         "META-INF/MANIFEST.MF": "\r\n".join(manifest).encode(),
         "META-INF/LICENSE": files["LICENSE"],
-        SERVICE: b"testkit.RecordListener\n",
+        **SERVICES,
         **classes(files),
     }
     jar = io.BytesIO()

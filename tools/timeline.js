@@ -47,7 +47,7 @@ const inOrder = [...executions].sort((one, other) => one.begin - other.begin || 
 const rows = [];
 const state = {
   left: 0, right: data.end, width: 0, height: 0,
-  selected: null, pointed: null, gap: null, ending: "", text: "", isAsked: false, colors: {},
+  selected: null, sharers: [], pointed: null, gap: null, ending: "", text: "", isAsked: false, colors: {},
 };
 
 // Rows: each with its place, and its executions, none of which begins before the one before it ends.
@@ -148,10 +148,18 @@ function besideText(it) {
   return lines.join("\n") || "none";
 }
 
+// Of a lock, as `W db`, its name.
+const lockName = (lock) => lock.slice(2);
+
+// The others that hold a lock of an execution.
+function sharersOf(it) {
+  const names = new Set(it.locks.map(lockName));
+  return executions.filter((other) => other !== it && other.locks.some((lock) => names.has(lockName(lock))));
+}
+
 // What is said of an execution that was chosen, and not of each that is pointed at.
 function furtherTexts(it) {
   const found = isTest(it) ? [["beside it", besideText(it)]] : [];
-  if (it.locks.length) found.push(["locks", it.locks.map((lock) => `${lock.slice(2)} (${lock[0] === "R" ? "read" : "write"})`).join("\n")]);
   const entries = it.entries.map((pairs) => pairs.map((text, at) => (at % 2 ? `= ${text}` : text)).join(" "));
   if (entries.length) found.push(["entries", entries.join("\n")]);
   return found;
@@ -167,6 +175,7 @@ function description(it) {
   rowsOfIt.push(["stamps", ends ? `${stampOf(it, "start")} to ${stampOf(it, "stop")}` : `from ${stampOf(it, "start")}`]);
   rowsOfIt.push(["events", ends ? `${it.first} to ${it.last}` : `from ${it.first}`]);
   rowsOfIt.push(["type", TYPES[it.type] + (it.isDynamic ? ", registered during the run" : "")]);
+  if (it.locks.length) rowsOfIt.push(["locks", it.locks.map((lock) => `${lockName(lock)} (${lock[0] === "R" ? "read" : "write"})`).join("\n")]);
   return rowsOfIt;
 }
 
@@ -215,6 +224,7 @@ function draw() {
   for (const row of rows) {
     if (row.top - top < state.height && row.top - top + row.highest * ROW > AXIS) drawRow(row, row.top - top);
   }
+  for (const it of state.sharers) outline(it, state.colors.accent, 1);
   if (state.pointed) outline(state.pointed, state.colors.text, 1);
   if (state.selected) outline(state.selected, state.colors.accent, 2);
   context.restore();
@@ -423,6 +433,7 @@ function point(it, x, y) {
 
 function select(it) {
   state.selected = it;
+  state.sharers = it ? sharersOf(it) : [];
   state.gap = null;
   if (it) describe(element("details"), it, MOST_IN_DETAILS, furtherTexts(it));
   else element("details").replaceChildren(help);
@@ -446,7 +457,9 @@ function goTo(it) {
 
 function find() {
   const text = state.text.toLowerCase();
-  const isFoundDescriptor = data.descriptors.map(([, id, name]) => id.toLowerCase().includes(text) || name.toLowerCase().includes(text));
+  const isFoundDescriptor = data.descriptors.map(
+    ([, id, name, , locks]) => [id, name, ...locks.map(lockName)].some((it) => it.toLowerCase().includes(text)),
+  );
   let count = 0;
   for (const it of executions) {
     it.isFound = isFoundDescriptor[it.descriptor] && (!state.ending || it.ending === state.ending);

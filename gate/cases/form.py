@@ -1,14 +1,20 @@
 """The form of the texts that the program reads and writes: versions, limits and statistics.
 
 All that changes with a further version of the texts stands here, so that the model and the tables name it
-and do not repeat it. `LATEST` is the version that the program writes, and the highest that it reads.
+and do not repeat it. `LATEST` is the version that the program writes, and the highest that it reads, but for records with locks.
 """
 
 LATEST = 2
-"""The version of record and replay texts that is written, and the highest that is read; so of plans."""
+"""The version of record texts without locks that is written, and the highest of replay texts and plans that is read."""
+
+LOCK_VERSION = 3
+"""The version of record texts that is written where there are locks, and the highest that is read."""
 
 VERSIONS = tuple(range(1, LATEST + 1))
-"""The versions of record texts, replay texts and plans that are read."""
+"""The versions of replay texts and plans that are read."""
+
+RECORD_VERSIONS = VERSIONS + (LOCK_VERSION,)
+"""The versions of record texts that are read."""
 
 FILE_VERSION = 2
 """The version from which on a text may have files."""

@@ -9,7 +9,7 @@ from model.program import outcome
 
 @dataclass(frozen=True)
 class RecordedRun:
-    """`run --record` of a plan by some workers. The record is not known but its answers are: the plan's report, and a kept lifecycle."""
+    """`run --record` of a plan by some workers. The record is not known but its answers are: the plan's report, a kept lifecycle, kept locks."""
 
     name: str
     plan: bytes
@@ -22,11 +22,11 @@ class RecordedRun:
         status, record, error = start(Case(self.name, words, self.plan), program)
         if status != 0 or error:
             return f"status {status}, error {error!r}"
-        for question, answer in ((b"report", self.report), (b"lifecycle", b"yes\n")):
+        for question, answers in ((b"report", [self.report]), (b"lifecycle", [b"yes\n"]), (b"locks", [b"yes\n", b"no pair\n"])):
             modelled = outcome([b"ask", question], record)
-            if (modelled.output, modelled.error) != (answer, b""):
+            if modelled.output not in answers or modelled.error:
                 return f"the model answers {modelled!r} to {question!r} of {record!r}"
-            fault = Case(self.name, [b"ask", question], record, answer).run(program)
+            fault = Case(self.name, [b"ask", question], record, modelled.output, status=modelled.status).run(program)
             if fault:
                 return f"{question!r} of {record!r}: {fault}"
         return None

@@ -21,7 +21,7 @@ import sys
 import threading
 import time
 from dataclasses import dataclass, fields
-from typing import BinaryIO, Callable, Iterator, List, Optional, Sequence, Tuple
+from typing import BinaryIO, Callable, Iterable, Iterator, List, Optional, Sequence, Tuple
 
 import fixtures
 from fixtures import PROGRAM, TOP, WithProgram, folder, parameterized
@@ -156,10 +156,55 @@ def events(*tails: str, keys: Sequence[int] = range(1, 65_001)) -> str:
     return "".join(f"E|1|{key}|0|{tail}\n" for key in keys for tail in tails)
 
 
-def record_of_tests(name: str, *parts: str) -> bytes:
-    """A record of an engine and of 65,000 tests below it, each with this name, and of these events."""
-    nodes = "".join(f"N|T|[engine:e]/[t:{number}]|{name}\n" for number in range(65_000))
+def record_of_tests(name: str, *parts: str, count: int = 65_000) -> bytes:
+    """A record of an engine and of tests below it, each with this name, and of these events."""
+    nodes = "".join(f"N|T|[engine:e]/[t:{number}]|{name}\n" for number in range(count))
     return (RECORD.replace("|T|", "|C|") + nodes + "".join(parts)).encode()
+
+
+def held(locks: Iterable[Tuple[int, str, str]], count: int, name: str, *parts: str) -> bytes:
+    """A record of tests of an engine in which keys hold locks, each with its mode."""
+    lines = "".join(f"L|{key}|{mode}|{lock}\n" for key, mode, lock in locks)
+    return record_of_tests(name, lines, *parts, count=count).replace(b"testkit-record|2", b"testkit-record|3")
+
+
+def apart_from_the_last(count: int) -> Sequence[str]:
+    """The events of tests that all start before the first finishes, and of a last one after them."""
+    return [events(tail, keys=range(1, count)) for tail in ("start", "finish|ok")] + [events("start", "finish|ok", keys=[count])]
+
+
+def one_lock_read() -> bytes:
+    """20,000 tests side by side that read a lock, which one writes after them."""
+    return held(((key, "RW"[key == 20_000], "db") for key in range(1, 20_001)), 20_000, "n" * 700, *apart_from_the_last(20_000))
+
+
+def many_locks() -> bytes:
+    """Tests that write 4,000 locks, sixteen of them each, one after the other."""
+    return held(((key, "W", f"lock {key % 4_000}") for key in range(1, 64_001)), 64_000, "n" * 150, events("start", "finish|ok", keys=range(1, 64_001)))
+
+
+def many_locks_of_each() -> bytes:
+    """A hundred tests side by side that read 4,000 locks each."""
+    keys = range(1, 101)
+    locks = ((key, "R", f"lock {number:04} {'x' * 24}") for key in keys for number in range(4_000))
+    return held(locks, 100, "n", events("start", keys=keys), events("finish|ok", keys=keys))
+
+
+def one_global() -> bytes:
+    """60,000 tests side by side, and after them one that holds `global`."""
+    return held([(60_000, "W", "global")], 60_000, "n" * 200, *apart_from_the_last(60_000))
+
+
+def locks_above() -> bytes:
+    """An engine that holds `global` and another lock above 60,000 tests side by side that read it."""
+    locks = [(0, "W", "db"), (0, "W", "global"), *((key, "R", "db") for key in range(1, 60_001))]
+    return held(locks, 60_000, "n" * 180, BEGIN, *apart_from_the_last(60_000), END)
+
+
+def held_and_never_finished() -> bytes:
+    """Two tests that write a lock one after the other, and starts of the second that never finish."""
+    begin = held([(1, "W", "db"), (2, "W", "db")], 2, "n", events("start", "finish|ok", keys=[1, 2])).decode()
+    return repeated(begin, "E|1|2|7|start\n")()
 
 
 BEGIN, END = events("start", keys=[0]), events("finish|ok", keys=[0])
@@ -269,12 +314,19 @@ ROWS = [
     row("record/exclusive of 65,000 readers side by side", "ask exclusive engine test", tests_side_by_side, Costs(0.8, 49_400, 391_000, 312, 2), "yes\n"),
     row("record/exclusive of starts that never finish", "ask exclusive test", NEVER_FINISHED, Costs(0.8, 61_000, 210, 312, 2), "yes\n"),
     row("record/executions of tests", "ask executions tests", EVENTS, Costs(0.8, 49_400, 210, 312, 153), "0 succeeded 7 8\n"),
+    row("record/locks, none", "ask locks", EVENTS, Costs(0.7, 44_500, 190, 258, 2), "no pair\n"),
+    row("record/locks, 20,000 readers of one", "ask locks", one_lock_read, Costs(0.4, 26_800, 120_260, 240, 2), "yes\n"),
+    row("record/locks, 4,000 of sixteen tests each", "ask locks", many_locks, Costs(0.7, 36_300, 398_730, 232, 2), "yes\n"),
+    row("record/locks, 4,000 of each of 100 tests", "ask locks", many_locks_of_each, Costs(0.7, 44_000, 544_400, 258, 2), "no pair\n"),
+    row("record/locks, global beside 60,000 tests", "ask locks", one_global, Costs(0.6, 33_400, 288_280, 246, 2), "yes\n"),
+    row("record/locks, global and another above 60,000 tests", "ask locks", locks_above, Costs(0.7, 36_700, 432_320, 239, 2), "no pair\n"),
+    row("record/locks of starts that never finish", "ask locks", held_and_never_finished, Costs(0.7, 71_900, 210, 258, 2), "yes\n"),
     row("record/list of all", "ask list all", EVENTS, Costs(0.8, 25_000, 190, 312, 442), "0 E|1|0|7|start\n1 E|1|0|8|finish|ok\n"),
     row("record/list by 100 conditions", "ask list all" + 99 * " started" + " not(started)", EVENTS, Costs(0.8, 25_000, 570, 312, 0), ""),
     row("record/lifecycle of 65,000 tests", "ask lifecycle", tests_of_an_engine, Costs(1.5, 29_300, 469_000, 285, 2), "yes\n"),
     row("record/lifecycle of 65,000 roots side by side", "ask lifecycle", roots_side_by_side, Costs(1.5, 15_400, 78_300, 69, 2), "yes\n"),
     row("record/lifecycle of 65,000 registered side by side", "ask lifecycle", registered_side_by_side, Costs(1.5, 23_300, 234_300, 107, 2), "yes\n"),
-    row("record/lifecycle of one test", "ask lifecycle", REPORTS, Costs(1.2, 168_000, 230, 312, 2), "yes\n"),
+    row("record/lifecycle of one test", "ask lifecycle", REPORTS, Costs(1.2, 226_300, 230, 312, 2), "yes\n"),
     row("record/report of 65,000 tests", "ask report", tests_of_an_engine, Costs(1.6, 35_400, 391_000, 285, 50), "skipped 0\nstarted 65001\n"),
     row("record/100 conditions in order", "ask match in-order" + 99 * " started" + " failed", EVENTS, Costs(0.7, 25_000, 470, 312, 2), "no 99\n"),
     row("record/100 conditions loosely", "ask match loosely" + 99 * " started" + " failed", EVENTS, Costs(0.6, 25_000, 460, 312, 2), "no 99\n"),
@@ -302,7 +354,7 @@ ROWS = [
     row("record/descriptors", "ask count tests", lambda: record_of_tests("n" * 200), Costs(1, 27_700, 234_100, 270, 2), "0\n"),
     row("record/long ids", "ask count all", long_ids, Costs(1.6, 19_700, 19_300, 297, 2), "0\n"),
     row("record/registrations", "ask count dynamic", registrations, Costs(1, 28_800, 216_200, 272, 2), "60000\n"),
-    row("record/reasons", "ask count skipped", repeated(RECORD, "E|1|0|7|skip|a reason of some length\n"), Costs(1.1, 55_000, 550_000, 312, 2), "4"),
+    row("record/reasons", "ask count skipped", repeated(RECORD, "E|1|0|7|skip|a reason of some length\n"), Costs(1.1, 69_500, 550_000, 312, 2), "4"),
     row("long line/reason", "ask count skipped", LONG_REASON, Costs(0.8, 40_000, 70, 312, 2), "1\n"),
     row("long line/escapes", "ask count skipped", repeated(RECORD + "E|1|0|7|skip|", "\\p", "\n"), Costs(0.9, 30_000, 90, 312, 2), "1\n"),
     row("long line/pairs", "ask count reporting", pairs, Costs(2.7, 230_000, 3_700_000, 279, 2), "1\n"),
@@ -312,7 +364,7 @@ ROWS = [
     row("long line/in pieces of 1 KiB", "ask count all", repeated(RECORD + "E|1|0|7|skip|", "x"), Costs(0.7, 20_000, 50, 16_400, 0), BAD, piece=KIB),
     row("record/a bad line first", "ask count all", repeated(RECORD + "X\n", "x"), Costs(0.2, 1_000, 50, 312, 0), BAD),
     row("record/16 MiB too many", "ask count all", lambda: EVENTS() + b"\n" * SIZE, Costs(0.6, 25_000, 200, 312, 0), "testkit: input too large\n"),
-    row("replay/waiting", "replay", waiting_replay, Costs(0.6, 84_000, 330, 87, 69), "testkit-record|2\n"),
+    row("replay/waiting", "replay", waiting_replay, Costs(0.6, 105_800, 330, 87, 69), "testkit-record|2\n"),
     row("plan/entries", "run", plan_of_entries, Costs(3.9, 370_000, 3_700_000, 278, 3), "skipped 0\n"),
     row("plan/entries and a fault", "run", lambda: plan_of_entries(',"files":[""]'), Costs(2.8, 370_000, 3_700_000, 278, 0), "testkit: plan member /root/files/0 is bad\n"),
     row("plan/entries of two pairs", "run", lambda: plan_of_entries(entry='[["a","%d"],["b",""]]', count=600_000), Costs(3.9, 543_000, 5_671_000, 278, 3), "skipped 0\n"),
@@ -433,8 +485,24 @@ def seconds_of(command: Sequence[str], path: str) -> float:
 ROUNDS = 7
 """How often each question of a pair is asked."""
 
+LOCKED = [
+    ("none", EVENTS),
+    ("20,000 readers of one", one_lock_read),
+    ("4,000 of sixteen tests each", many_locks),
+    ("4,000 of each of 100 tests", many_locks_of_each),
+    ("global beside 60,000 tests", one_global),
+    ("global and another above 60,000 tests", locks_above),
+    ("starts that never finish", held_and_never_finished),
+]
+"""Records of which `ask locks` is asked."""
+
+UNCOMPARED = [EVENTS, many_locks_of_each, locks_above]
+"""Those of which it answers `no pair`, so that an explanation counts who holds a lock."""
+
 BESIDE = [
     Pair("ask exclusive test", "ask executions", EVENTS, 1.3),
+    *[Pair("ask locks", "ask executions", input, 1.5, f"locks, {name}, beside executions") for name, input in LOCKED],
+    *[Pair("ask explain locks", "ask locks", input, 3, f"explained locks, {name}") for name, input in LOCKED if input in UNCOMPARED],
     Pair("ask explain loosely" + LAST_FAILS, "ask match loosely" + LAST_FAILS, EVENTS, 3),
     Pair("ask explain in-order" + LAST_FAILS, "ask match in-order" + LAST_FAILS, EVENTS, 3),
     Pair("ask explain in-order" + TOO_EARLY, "ask match in-order" + TOO_EARLY, FAILING, 3),

@@ -33,8 +33,9 @@ MAKES = [
         {"FrontDeskTests": "EvenNumbers", "front_desk_engine": "even_numbers", '"front_desk"': '"even"', "engine:front_desk": "engine:even", "use front_desk": "use example_engine"},
     ),
     Makes(
-        "an engine by hand", ["--by-hand", "front_desk"], "by_hand/numbers.rt", "FrontDeskEngine",
-        {"FrontDeskEngine": "NumberEngine", '"front_desk"': '"numbers"', "engine:front_desk": "engine:numbers", "use front_desk": "use example_engine::by_hand"},
+        "an engine by hand", ["--by-hand", "front_desk"], "by_hand/numbers.rt",
+        "{FrontDeskUnits, front_desk_engine}",
+        {"FrontDeskUnits": "NumberUnits", "front_desk_engine": "number_engine", '"front_desk"': '"numbers"', "engine:front_desk": "engine:numbers", "use front_desk": "use example_engine::by_hand"},
     ),
 ]
 
@@ -103,9 +104,8 @@ class NewEngine(unittest.TestCase):
             for name, old in row.names.items():
                 page = page.replace(name, old)
             self.assertEqual(page, before[f"{example}/{row.page}"])
-        self.assertEqual(made.pop("crates/test_front_desk/src/assertions.rt"), before[f"{TESTS}/assertions.rt"])
         self.assertTrue(made.pop("crates/front_desk/src/lib.rt").endswith(f"#![tactic(auto)]\n\nmod engine;\n\npub use engine::{row.given};\n"))
-        self.assertIn("#![tactic(auto)]\n\n#[cfg(test)]\nmod assertions;\n#[cfg(test)]\nmod engine;\n", made.pop("crates/test_front_desk/src/lib.rt"))
+        self.assertIn("#![tactic(auto)]\n\n#[cfg(test)]\nmod engine;\n", made.pop("crates/test_front_desk/src/lib.rt"))
         self.assertEqual(made, {})
 
     @parameterized(REFUSES, name=attrgetter("name"))

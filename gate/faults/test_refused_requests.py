@@ -24,20 +24,21 @@ sys.path.append(f"{TOP}/gate/cases")
 
 from compiling import HERE, WithLibrary
 from tables.building import as_bytes, as_words
+from tables.locks import BESIDE, held
 from tables.texts import DEMO_PLAN, SMALL_REPLAY, TWO_TESTS
 
 TIME_LIMIT = 60
 """How many seconds a run may take: far more than any needs."""
 
-KEPT_BY_RUN = 30
+KEPT_BY_RUN = 32
 """How many blocks of memory the record of the demo plan's run has, with any number of workers.
 
 The program keeps them at its end, when the system takes all at once: to free the whole run one by one took up to a fifth of its time. The
-plan is freed before. Its texts have at most 16 bytes, so that they stand in their values.
+plan is freed before. Its texts have at most 16 bytes, so that they stand in their values; its one lock has a list of its own, of two blocks.
 """
 
-KEPT_LONG = KEPT_BY_RUN + 10
-"""The same of `LONG_PLAN`, whose eight names, reason and message have blocks of their own."""
+KEPT_LONG = KEPT_BY_RUN + 11
+"""The same of `LONG_PLAN`, whose eight names, lock, reason and message have blocks of their own."""
 
 MOST_REQUESTS = 5_000
 """How many requests of a kind a run makes at most."""
@@ -215,6 +216,9 @@ LONG_RECORD = re.sub(r"\b(e|one|two|boom|off)$", rf"\1{LONGER}", TWO_TESTS, flag
 LONG_PLAN = re.sub(r'"(?:name|skip|message|key)":"\w+|"segment":\["\w+","\w+', rf"\g<0>{LONGER}", DEMO_PLAN)
 """The demo plan with such texts."""
 
+LONG_LOCKS = held(f"3 W db{LONGER}, 4 R db{LONGER}", BESIDE)
+"""Two tests that overlap and hold a lock, whose name has memory of its own."""
+
 NEVER_FINISHES = TWO_TESTS.rpartition("E|")[0]
 CHILD_RUNS = TWO_TESTS.replace("E|1|1|2|finish|fail|boom\n", "")
 """The record of two tests without the finish of its container, and without that of its first test."""
@@ -234,6 +238,7 @@ COMMANDS = [
     Command("ask executions", TWO_TESTS, OF_A_RECORD),
     Command("ask exclusive all(test,started) any(failed(boom),not(entry(k,v)))", TWO_TESTS, OF_A_RECORD),
     Command("ask lifecycle", TWO_TESTS, OF_A_RECORD),
+    Command("ask locks", LONG_LOCKS, OF_A_LONG_RECORD),
     Command("ask report", TWO_TESTS, OF_A_RECORD),
     Command("ask explain exactly container started any() skipped(off) engine", TWO_TESTS, OF_A_RECORD),
     Command("ask explain exactly started", TWO_TESTS, OF_A_RECORD),
@@ -245,6 +250,7 @@ COMMANDS = [
     Command("ask explain executions", TWO_TESTS, OF_A_RECORD),
     Command("ask explain lifecycle", CHILD_RUNS, OF_A_RECORD),
     Command("ask explain lifecycle", NEVER_FINISHES, OF_A_RECORD),
+    Command("ask explain locks", LONG_LOCKS, OF_A_LONG_RECORD),
     Command("ask explain loosely failed(bang)", LONG_RECORD, OF_A_LONG_RECORD),
     Command("ask stats", LONG_RECORD, OF_A_LONG_RECORD),
     Command("ask executions", LONG_RECORD, OF_A_LONG_RECORD),
@@ -252,6 +258,7 @@ COMMANDS = [
     Command("replay", SMALL_REPLAY, OF_A_RECORD),
     Command("replay", SKIP_REPLAY, OF_A_RECORD),
     Command("run", DEMO_PLAN, {**OF_A_RUN, "thread": 1}, KEPT_BY_RUN, frozenset(range(4))),
+    Command("run --record", LONG_PLAN, {**OF_A_RUN, "thread": 1}, KEPT_LONG, frozenset(range(4))),
     Command("run --workers 2", DEMO_PLAN, {**OF_A_RUN, "thread": 2}, KEPT_BY_RUN),
     Command("run --workers=15", DEMO_PLAN, {**OF_A_RUN, "thread": 15}, KEPT_BY_RUN),
     Command("run", LONG_PLAN, {**OF_A_RUN, "thread": 1}, KEPT_LONG, frozenset(range(4))),
@@ -265,6 +272,7 @@ FAULTS = [
     ("ask count x", TWO_TESTS),
     ("ask list x", TWO_TESTS),
     ("ask explain lifecycle x", TWO_TESTS),
+    ("ask locks x", TWO_TESTS),
     ("replay", b""),
     ("run", b"{"),
     ("run --workers 0", DEMO_PLAN),

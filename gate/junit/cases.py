@@ -1,4 +1,4 @@
-"""What has to come of each case of ListenerCases and KitCases, as expected.txt says it, and at the limits of a record."""
+"""What has to come of each case of ListenerCases, LockCases and KitCases, as expected.txt says it, and at the limits of a record."""
 
 import glob
 import os
@@ -7,7 +7,7 @@ from dataclasses import dataclass, field
 from itertools import accumulate
 from typing import Dict, List, Sequence
 
-from records import HEADER, check_lines, check_record
+from records import HEADER, HEADER_WITH_LOCKS, check_lines, check_record
 
 HERE = os.path.dirname(os.path.realpath(__file__))
 MIB = 1 << 20
@@ -55,6 +55,7 @@ def expected() -> Dict[str, List[Case]]:
             (case.messages if text.startswith("testkit: ") else case.facts).append(text)
         elif sign not in ("", "#"):
             lines.append(line)
+            lines[0] = HEADER_WITH_LOCKS if line.startswith("L|") else lines[0]
     return found
 
 

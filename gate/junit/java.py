@@ -9,6 +9,7 @@ from dataclasses import dataclass
 from typing import Callable, Sequence
 
 import fixtures
+import listener
 
 LIBRARY = "/usr/share/java"
 CONSOLE = f"{LIBRARY}/junit-platform-console-standalone.jar"
@@ -18,8 +19,6 @@ NAMES_OF_JARS = (
 )
 JARS = [f"{LIBRARY}/{name}.jar" for name in NAMES_OF_JARS]
 EXAMPLES, HERE = f"{fixtures.TOP}/examples/junit", os.path.dirname(os.path.realpath(__file__))
-LISTENER = ("RecordListener", "RecordFile", "ResultsWriter", "RecordAssert", "RecordSource", "ResultsAssert")
-"""What others use; it has to compile as Java 8."""
 
 KIT = os.environ.get("KIT", "")
 """The class path of JUnit's EngineTestKit with what it needs. Without it the classes in kit/ stand for it, as Debian has none."""
@@ -73,17 +72,16 @@ def compiled(folder: str, with_tests: bool = True) -> Classes:
     os.makedirs(folder)
     classes = Classes(folder)
     stand_in = [] if KIT else glob.glob(f"{EXAMPLES}/kit/**/*.java", recursive=True)
-    classes.compile([*stand_in, *(f"{EXAMPLES}/testkit/{name}.java" for name in LISTENER)], "--release", "8")
+    classes.compile([*stand_in, *(f"{EXAMPLES}/testkit/{name}.java" for name in listener.LISTENER)], "--release", "8")
     if with_tests:
         classes.compile([f"{EXAMPLES}/testkit/SampleTests.java", *glob.glob(f"{HERE}/testkit/*.java")])
     return classes
 
 
 def with_service(classes: Classes, folder: str) -> None:
-    """Puts the listener into a folder as a build has it: its class, and the file by which JUnit finds it."""
-    os.makedirs(f"{folder}/META-INF/services")
-    os.makedirs(f"{folder}/testkit", exist_ok=True)
+    """Puts the listener into a folder as a build has it: its classes, and the files by which JUnit finds them."""
+    os.makedirs(f"{folder}/testkit")
     for path in glob.glob(f"{classes.folder}/testkit/Record[FL]*.class"):
         shutil.copy(path, f"{folder}/testkit")
-    with open(f"{folder}/META-INF/services/org.junit.platform.launcher.TestExecutionListener", "w", encoding="utf-8") as file:
-        file.write("testkit.RecordListener\n")
+    for name, text in listener.SERVICES.items():
+        fixtures.write(f"{folder}/{name}", text.decode())

@@ -6,8 +6,9 @@ from dataclasses import dataclass
 from itertools import zip_longest
 from typing import Dict, List, Optional, Sequence, Tuple
 
-HEADER = "testkit-record|2"
+HEADER, HEADER_WITH_LOCKS = "testkit-record|2", "testkit-record|3"
 ENTRY = re.compile(r"E\|([0-9]+)\|([0-9]+)\|([0-9]+)\|(.*)", re.DOTALL)
+LOCK = re.compile(r"L\|([0-9]+)\|([RW]\|.+)")
 FIRST_KEYS = 65_536
 """How many keys there are of static descriptors, and of each worker's registrations."""
 
@@ -57,6 +58,20 @@ def by_id(lines: Sequence[str]) -> List[str]:
             ids[entry.key] = entry.tail.split("|")[2] if entry.key == wanted else f"key {entry.key} in place of {wanted}"
         events[ids.get(entry.key, f"unknown key {entry.key}")].append(f"  {entry.tail}")
     return others + sorted(statics) + [line for it in sorted(events) for line in (it, *events[it])]
+
+
+def locks_by_id(lines: Sequence[str]) -> Dict[str, List[str]]:
+    """The locks of each descriptor that has some, each its mode and its name; they have to stand in order behind the descriptors."""
+    statics = [line for line in lines if line.startswith("N|")]
+    locks = [line for line in lines if line.startswith("L|")]
+    assert list(lines[1 : 1 + len(statics) + len(locks)]) == statics + locks, "a lock stands elsewhere"
+    parts = [LOCK.fullmatch(line) for line in locks]
+    order = [(int(it[1]), it[2][2:].encode()) for it in parts]
+    assert order == sorted(set(order)), f"the locks have another order: {order}"
+    found: Dict[str, List[str]] = defaultdict(list)
+    for it in parts:
+        found[statics[int(it[1])].split("|")[2]].append(it[2])
+    return found
 
 
 def check_lines(came: Sequence[str], wanted: Sequence[str]) -> None:

@@ -19,6 +19,26 @@ CROWDED = "testkit: more than 15 threads run at once, and share the workers 1 to
 THREADS = 40
 """How many threads the odd engine has besides its own."""
 
+PARALLEL = {
+    "junit.jupiter.execution.parallel.enabled": "true",
+    "junit.jupiter.execution.parallel.config.strategy": "fixed",
+    "junit.jupiter.execution.parallel.config.fixed.parallelism": "4",
+}
+"""The settings by which Jupiter runs tests in parallel."""
+
+JUPITER = "[engine:junit-jupiter]/[class:testkit.LockTests"
+LOCKS = {
+    f"{JUPITER}]/[method:writes()]": ["W|db"],
+    f"{JUPITER}]/[method:reads()]": ["R|db"],
+    f"{JUPITER}]/[method:readsAndWrites()]": [r"R|a\pb\\c\nd", "W|db"],
+    f"{JUPITER}]/[test-template:repeats()]": ["R|db"],
+    f"{JUPITER}]/[nested-class:Inner]": ["R|db"],
+    f"{JUPITER}]/[nested-class:Inner]/[method:prints()]": ["W|java.lang.System.out"],
+    f"{JUPITER}$AloneTests]": ["W|global"],
+    f"{JUPITER}$AloneTests]/[method:isAlone()]": ["W|[replaced-lock:global]", "R|global"],
+}
+"""The locks of LockTests, but for a test that isn't chosen."""
+
 
 def run_of(statics: Sequence[str], events: Events) -> List[str]:
     """A record without threads and stamps, as `by_id` gives it."""

@@ -8,13 +8,13 @@ import java
 from records import HEADER, entries
 from test_listener import WithClasses as Compiled
 
-TESTS = 21
+TESTS = 22
 """How many tests RecordAssertTests has."""
 
 REAL = fixtures.PROGRAM if os.access(fixtures.PROGRAM, os.X_OK) else ""
 """The program, if there is one."""
 
-MAY_ABORT = {"theProgramIsOnThePathWithoutAProperty", *([] if REAL else ["theProgramAnswers"])}
+MAY_ABORT = {"theProgramIsOnThePathWithoutAProperty", *([] if REAL else ["theProgramAnswers", "theProgramJudgesLocks"])}
 """Tests that a program on the path, or no program, leaves out."""
 
 

@@ -73,6 +73,18 @@ def of_crowd(workers=15, first=0):
     return compare
 
 
+WITH_LOCKS = [records.HEADER_WITH_LOCKS, *STARTED[1:2], "N|T|[engine:e]/[t:1]|one", "L|0|R|b", "L|1|W|a", "L|1|R|b", *STARTED[2:]]
+
+
+def of_locks(*lines):
+    """Lines with these locks, beside those above."""
+    def compare():
+        wanted = {"[engine:e]": ["R|b"], "[engine:e]/[t:1]": ["W|a", "R|b"]}
+        assert records.locks_by_id([*WITH_LOCKS[:3], *lines, *STARTED[2:]]) == wanted
+
+    return compare
+
+
 RIGHT = [
     ("a record", of_record()),
     ("positions", of_record("500000|start\nE|1|0|700000", "0|start\nE|1|0|1", POSITIONS)),
@@ -81,6 +93,7 @@ RIGHT = [
     ("workers of a few", of_workers([1, 2, 3])),
     ("workers of a crowd", of_workers([*range(1, 16), *range(1, 4)])),
     ("a crowd", of_crowd()),
+    ("locks", of_locks(*WITH_LOCKS[3:6])),
     ("a pause", lambda: samples.check_pause([1, 2, 100_002, 100_003])),
 ]
 WRONG = [
@@ -102,6 +115,11 @@ WRONG = [
     ("a thread of two workers", of_workers([1, 2, 3], 2)),
     ("a crowd in which a stamp stands twice", of_crowd(first=1)),
     ("a crowd of fourteen workers", of_crowd(14)),
+    ("a lock is missing", of_locks(*WITH_LOCKS[3:5])),
+    ("another mode", of_locks("L|0|W|b", *WITH_LOCKS[4:6])),
+    ("a lock twice", of_locks(WITH_LOCKS[3], *WITH_LOCKS[3:6])),
+    ("locks in another order", of_locks(WITH_LOCKS[3], WITH_LOCKS[5], WITH_LOCKS[4])),
+    ("a lock among the events", of_locks(WITH_LOCKS[3], STARTED[2], *WITH_LOCKS[4:6])),
     ("a pause in milliseconds", lambda: samples.check_pause([0, 0, 100, 100])),
 ]
 """A comparison, after its name."""

@@ -15,7 +15,7 @@ import fixtures
 import java
 import samples
 from fixtures import parameterized
-from records import HEADER, by_id, check_lines, check_stamps, entries
+from records import HEADER, HEADER_WITH_LOCKS, by_id, check_lines, check_stamps, entries, locks_by_id
 
 LONGER = 1 << 12
 """How many lines a file has that is longer than any sample's record."""
@@ -58,7 +58,7 @@ class WithClasses(unittest.TestCase):
 
 @java.needs_junit
 class OfCases(WithClasses):
-    """The cases of ListenerCases and KitCases."""
+    """The cases of ListenerCases, LockCases and KitCases."""
 
     @classmethod
     def setUpClass(cls):
@@ -67,6 +67,7 @@ class OfCases(WithClasses):
         groups = cases.expected()
         cls.play("ListenerCases", *(case.name for case in groups["texts"] + groups["runs"]), "crowd")
         cls.play("ListenerCases", *(case.name for case in cases.limits()))
+        cls.play("LockCases", *(case.name for case in groups["locks"]))
         cls.play("KitCases", *(case.name for case in groups["kit"]))
         cls.play("ListenerCases", "full-disk", most_bytes=FULL)
         cls.play("ListenerCases", "full-at-once", most_bytes=len(HEADER) // 2)
@@ -181,15 +182,38 @@ class ErrorsTest {
 class OfConsole(WithClasses):
     """A run of JUnit's console, which finds the listener by its service and captures what tests write on standard error."""
 
+    @classmethod
+    def setUpClass(cls):
+        super().setUpClass()
+        java.with_service(cls.classes, f"{cls.out}/service")
+
+    def play(self, folder, words, settings):
+        """Runs tests whose classes are in a folder, and returns what is on standard error, and the lines of the record."""
+        path = f"{tempfile.mkdtemp(dir=self.out)}/run.record"
+        words = ["-jar", java.CONSOLE, "-cp", f"{folder}:{self.out}/service", "--details", "none", *words]
+        for name, value in {"testkit.record": path, **settings}.items():
+            words += ["--config", f"{name}={value}"]
+        ran = fixtures.run([*java.COMMAND, *words], seconds=java.SECONDS)
+        self.assertEqual(ran.status, 0, ran)
+        return ran.error, self.lines(os.path.relpath(path, self.out))
+
     def test_captured_errors(self):
         """What the listener says in a test goes to the console, and not into an entry of the test."""
-        java.with_service(self.classes, f"{self.out}/service")
         fixtures.write(f"{self.out}/ErrorsTest.java", TEST)
         java.Classes(f"{self.out}/tests").compile([f"{self.out}/ErrorsTest.java"])
-        words = ["-jar", java.CONSOLE, "-cp", f"{self.out}/tests:{self.out}/service", "--select-class", "ErrorsTest", "--details", "none"]
-        settings = {"testkit.record": f"{self.out}/console.record", "junit.platform.output.capture.stderr": "true"}
-        ran = fixtures.run([*java.COMMAND, *words, *(word for pair in settings.items() for word in ("--config", "=".join(pair)))], seconds=java.SECONDS)
-        self.assertEqual(ran.status, 0, ran)
-        self.assertIn(b"are one text, and the second is left out", ran.error)
-        reports = [it.tail for it in entries(self.lines("console.record")) if it.tail.startswith("report|")]
+        errors, lines = self.play(f"{self.out}/tests", ["--select-class", "ErrorsTest"], {"junit.platform.output.capture.stderr": "true"})
+        self.assertIn(b"are one text, and the second is left out", errors)
+        reports = [it.tail for it in entries(lines) if it.tail.startswith("report|")]
         self.assertEqual(reports, ["report|\ufffd|v", "report|stderr|of b\\n"])
+
+    def test_locks(self):
+        """The locks of Jupiter's tests, also of classes that a filter of tags excludes, and that stay for the sake of their tests."""
+        classes = ["--select-class", "testkit.LockTests", "--select-class", "testkit.LockTests$AloneTests", "--include-tag", "chosen"]
+        _, lines = self.play(self.classes.folder, classes, samples.PARALLEL)
+        self.assertEqual(lines[0], HEADER_WITH_LOCKS)
+        self.assertEqual(locks_by_id(lines), samples.LOCKS)
+        with self.subTest("the answer of the program"):
+            if not os.access(fixtures.PROGRAM, os.X_OK):
+                self.skipTest(fixtures.NO_PROGRAM)
+            ran = fixtures.ask(["ask", "locks"], "".join(f"{line}\n" for line in lines).encode())
+            self.assertEqual((ran.status, ran.output, ran.error), (0, b"yes\n", b""))

@@ -14,7 +14,7 @@ import fixtures
 import java
 from cases import read
 from fixtures import parameterized
-from records import HEADER, entries
+from records import HEADER, HEADER_WITH_LOCKS, entries, locks_by_id
 
 REPOSITORY = "/usr/share/maven-repo"
 PLUGIN = "org.apache.maven.plugins:maven-surefire-plugin"
@@ -22,7 +22,8 @@ CLASSES = "ABCDEF"
 
 TEST = """package demo;
 import org.junit.jupiter.api.Test;
-class {0}Test {{
+import org.junit.jupiter.api.parallel.ResourceLock;
+@ResourceLock("db") class {0}Test {{
     @Test void passes() throws InterruptedException {{ Thread.sleep(20); }}
     @Test void fails() {{ throw new IllegalStateException("boom {0}"); }}
 }}
@@ -145,10 +146,13 @@ class OfSurefire(unittest.TestCase):
         self.assertEqual(endings, Counter({ending: setting.runs * number for ending, number in wanted.items()}))
 
     def endings_of(self, record):
-        """How each test of a record ended, which has to have started before."""
+        """How each test of a record ended, which has to have started before; its class has a lock."""
         lines = read(record).split("\n")
-        self.assertEqual(lines[0], HEADER)
         statics = [line for line in lines if line.startswith("N|")]
+        classes = [it for it in (line.split("|")[2] for line in statics) if it.count("/") == 1]
+        # (a process to which Surefire gave no class has no lock either)
+        self.assertEqual(lines[0], HEADER_WITH_LOCKS if classes else HEADER, lines)
+        self.assertEqual(locks_by_id(lines), {it: ["W|db"] for it in classes})
         for key in [key for key, line in enumerate(statics) if "/[method:" in line]:
             start, end = [it.tail for it in entries(lines) if it.key == key]
             self.assertEqual(start, "start")

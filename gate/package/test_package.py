@@ -168,13 +168,14 @@ class Made(unittest.TestCase):
         with zipfile.ZipFile(f"{self.tar}/{JAR}") as jar:
             names, found = jar.namelist(), {name: jar.read(name) for name in jar.namelist()}
             forms = {(it.create_system, it.external_attr >> 16, it.compress_type, it.date_time) for it in jar.infolist()}
-        heads = ["META-INF/MANIFEST.MF", "META-INF/LICENSE", "META-INF/services/org.junit.platform.launcher.TestExecutionListener"]
-        self.assertEqual(names, heads + sorted(names[3:]))
+        services = [f"META-INF/services/org.junit.platform.launcher.{it}" for it in ("TestExecutionListener", "PostDiscoveryFilter")]
+        heads = ["META-INF/MANIFEST.MF", "META-INF/LICENSE", *services]
+        self.assertEqual(names, heads + sorted(names[4:]))
         self.assertEqual(forms, {(3, 0o100644, zipfile.ZIP_STORED, (1980, 1, 1, 0, 0, 0))})
-        self.assertEqual({re.sub(r"(\$\w+)?\.class$", "", name) for name in names[3:]}, {f"testkit/{it}" for it in ("RecordListener", "RecordFile", "ResultsWriter", "RecordAssert", "RecordSource", "ResultsAssert")})
-        self.assertEqual({found[name][4:8] for name in names[3:]}, {b"\0\0\0\x34"}, "Java 8")
+        self.assertEqual({re.sub(r"(\$\w+)?\.class$", "", name) for name in names[4:]}, {f"testkit/{it}" for it in ("RecordListener", "RecordLocks", "RecordFile", "ResultsWriter", "RecordAssert", "RecordSource", "ResultsAssert")})
+        self.assertEqual({found[name][4:8] for name in names[4:]}, {b"\0\0\0\x34"}, "Java 8")
         wanted = f"Manifest-Version: 1.0\r\nAutomatic-Module-Name: testkit\r\nImplementation-Title: testkit\r\nImplementation-Version: {VERSION}\r\n\r\n".encode()
-        self.assertEqual([found[it] for it in heads], [wanted, read(self.of.path("LICENSE")), b"testkit.RecordListener\n"])
+        self.assertEqual([found[it] for it in heads], [wanted, read(self.of.path("LICENSE")), b"testkit.RecordListener\n", b"testkit.RecordLocks\n"])
 
     @unittest.skipUnless(HAS_JAVA, "no javac")
     def test_maven(self):
@@ -189,15 +190,15 @@ class Made(unittest.TestCase):
 
     @unittest.skipUnless(HAS_JAVA and os.path.exists(CONSOLE), "no javac")
     def test_jar_in_the_console(self):
-        """The console finds the listener in the jar, which records a run."""
+        """The console finds the listener and the filter in the jar, which record a run with its locks."""
         at = folder(self)
         with open(f"{at}/OneTest.java", "w", encoding="utf-8") as file:
-            file.write("public class OneTest {\n    @org.junit.jupiter.api.Test\n    void one() {\n    }\n}\n")
+            file.write("public class OneTest {\n    @org.junit.jupiter.api.Test\n    @org.junit.jupiter.api.parallel.ResourceLock(\"db\")\n    void one() {\n    }\n}\n")
         compiled = run(["javac", "-d", f"{at}/classes", "-cp", CONSOLE, f"{at}/OneTest.java"])
         words = ["-cp", f"{at}/classes:{self.tar}/{JAR}", "--config", f"testkit.record={at}/run.record", "--select-class", "OneTest"]
         ran = run(["java", "-jar", CONSOLE, *words, "--disable-banner"], cwd=at)
         self.assertEqual((compiled.status, ran.status), (0, 0), (compiled, ran))
-        self.assertRegex(read(f"{at}/run.record"), rb"(?s)^testkit-record\|2\n.*method:one\(\).*\|finish\|ok\n")
+        self.assertRegex(read(f"{at}/run.record"), rb"(?s)^testkit-record\|3\n.*method:one\(\).*\nL\|\d\|W\|db\n.*\|finish\|ok\n")
 
 
 def set_git(it):

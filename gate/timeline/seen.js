@@ -53,7 +53,16 @@
     point("pointerdown", ...bars.failed[0]);
     point("pointerup", ...bars.failed[0]);
     saw.selected = terms("details");
+    saw.sharers = state.sharers.map((it) => it.id);
   }
+  function found(text) {
+    element("search").value = text;
+    element("search").dispatchEvent(new Event("input"));
+    return element("found").textContent;
+  }
+  saw.holders = found("DB");
+  saw.nobody = found("w db");
+  found("");
   canvas.focus();
   saw.isFocused = document.activeElement === canvas;
   press("Escape");

@@ -27,19 +27,26 @@ def nodes(*words):
     return "testkit-record|2\nN|C|[engine:e]|\n" + "".join(f"N|{word[0]}|{it}|\n" for word, it in zip(words, ids))
 
 
+def holding(record, *locks):
+    """A record with the lines of these locks, as `1 W db`, after those of its descriptors."""
+    head, mark, lines = record.replace("record|2", "record|3").partition("E|")
+    return head + "".join("L|" + "|".join(lock.split(" ", 2)) + "\n" for lock in locks) + mark + lines
+
+
 def events(*words):
     """E lines of words such as `1 2 30 start`: worker, key, stamp, tail."""
     return "".join("E|" + "|".join(word.split(" ", 3)) + "\n" for word in words)
 
 
 BEGINS = events("0 0 100 start", "1 1 110 start", "1 2 112 start", "2 4 115 start", "1 2 130 finish|fail|boom")
-MIXED = (
+MIXED = holding(
     nodes("C c", "T c/1", "T c/2", "T 3", "T 4")
     + BEGINS
     + events("1 3 150 start", "1 3 151 finish|abort", "1 65536 151 dynamic|T|[engine:e]/[x:c]/[x:5]|", "1 65536 160 start", "1 65536 165 finish|ok")
-    + events("1 65537 165 dynamic|T|[engine:e]/[x:c]/[x:6]|", "1 65537 166 skip|off", "1 1 170 finish|ok", "0 0 180 finish|ok")
+    + events("1 65537 165 dynamic|T|[engine:e]/[x:c]/[x:6]|", "1 65537 166 skip|off", "1 1 170 finish|ok", "0 0 180 finish|ok"),
+    *("2 R Net", "2 W db", "3 W net", "4 R db", "5 R db"),
 )
-"""Every ending, a registered test in its frame, gaps, a test of another worker that never finishes, and a descriptor that never runs.
+"""Every ending, a registered test in its frame, gaps, a test of another worker that never finishes, and a descriptor that never runs. Four tests hold locks, of which two run beside each other and share one.
 
 No name is on a bar, so that each bar is one area of its color.
 """
@@ -75,6 +82,7 @@ DATA = [
         *("entries", ONE + events("1 1 5 start", "1 1 6 report|a|b|c|d", "1 1 6 report", "1 1 7 finish|ok", "1 1 8 report|e|f"), []),
         *(columns("entries"), [[[["a", "b", "c", "d"], []]]]),
     ),
+    ("locks", holding(ONE_RUN, "1 R a\\pb c", "1 W db"), [], of_page("descriptors"), [["T", "[engine:e]/[x:1]", "", False, ["R a|b c", "W db"]]]),
 ]
 """What the data of a page have: the name, the record, the words, what is looked at, and what it has to be."""
 
@@ -87,7 +95,7 @@ class Page(WithProgram):
 
     def test_refusals(self):
         """The program's line and status are handed on, and no page is written."""
-        for name, record, line in (("no record", "", b"testkit: no header\n"), ("a bad line", MIXED[:-1], b"testkit: line 21 is bad\n")):
+        for name, record, line in (("no record", "", b"testkit: no header\n"), ("a bad line", MIXED[:-1], b"testkit: line 26 is bad\n")):
             with self.subTest(name):
                 ran = self.drawn(record)
                 self.assertEqual((ran.status, ran.output, ran.error), (2, b"", line))
@@ -140,7 +148,7 @@ class Page(WithProgram):
 
     def test_trace(self):
         """A process for each record and a thread for each worker; what overlaps in one stands beside it."""
-        one = ONE + events("1 1 1000 start", "1 1 1001 report|k|v", "2 1 1004 finish|fail|boom", "1 1 1005 start")
+        one = holding(ONE, "1 W db") + events("1 1 1000 start", "1 1 1001 report|k|v", "2 1 1004 finish|fail|boom", "1 1 1005 start")
         two = nodes("T 1", "T 2", "T 3") + events("1 1 1001 start", "1 2 1002 start", "1 1 1003 finish|ok", "1 2 1006 finish|ok", "1 3 1006 skip|off")
         ran = run([f"{TOP}/tools/trace", *self.files(one, two)], env={**os.environ, "PROGRAM": PROGRAM})
         self.assertEqual(ran.status, 0, ran)
@@ -153,7 +161,7 @@ class Page(WithProgram):
         self.assertEqual(slices, [*in_one, (1, 1, "i", 6, None, "skipped")])
         failed = next(it for it in found if it.get("cat") == "failed")
         wanted = {"id": "[engine:e]/[x:1]", "type": "test", "ending": "failed", "event": 0, "last event": 2, "message": "boom"}
-        self.assertEqual(failed["args"], {**wanted, "finished by worker": 2, "entries": [{"k": "v"}]})
+        self.assertEqual(failed["args"], {**wanted, "finished by worker": 2, "locks": ["W db"], "entries": [{"k": "v"}]})
 
     def test_texts(self):
         """No text of a record gets into the page as markup, and the policy names the page's own script and style alone."""
@@ -217,11 +225,16 @@ class Browser(WithProgram):
     def test_selection(self):
         """What is pointed at is described; once it is selected, also who ran beside it."""
         wanted = {"name": "", "id": "[engine:e]/[x:c]/[x:1]", "ending": "failed", "message": "boom", "duration": "18 \u00b5s", "worker": "1"}
-        wanted.update({"stamps": "112 to 130", "events": "2 to 4", "type": "test"})
+        wanted.update({"stamps": "112 to 130", "events": "2 to 4", "type": "test", "locks": "Net (read)\ndb (write)"})
         self.assertEqual(self.saw["tip"], wanted)
         self.assertEqual(self.saw["selected"], {**wanted, "beside it": "worker 2: [engine:e]/[x:3]"})
         self.assertEqual(self.saw["longest"]["beside it"], "".join(f"worker 1: [engine:e]/[x:c]/[x:{it}]\n" for it in (1, 2, 5)).rstrip())
         self.assertEqual(self.saw["late"]["beside it"], "worker 2: [engine:e]/[x:3]", "what ran before is not beside")
+
+    def test_locks(self):
+        """Others that hold a lock of the selected one have a frame, and those that hold a lock are found by its name."""
+        self.assertEqual(self.saw["sharers"], ["[engine:e]/[x:3]"])
+        self.assertEqual((self.saw["holders"], self.saw["nobody"]), ("2 found", "0 found"))
 
     def test_keys(self):
         """The canvas takes the focus, the arrow keys go from bar to bar, + shows a part and 0 the whole."""

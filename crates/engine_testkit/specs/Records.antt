@@ -7,5 +7,5 @@ pub use Rattle.tk_record.specs.Selections.{intersected, passes, positioned, posi
 pub use Rattle.tk_record.specs.Selections.{selection_name, selects}
 pub use Rattle.tk_record.specs.Statistics.{expected_of, is_counted, mismatches, nothing_expected}
 pub use Rattle.tk_record.specs.Statistics.{statistic_rows, statistics_of, with_expected}
-pub use Rattle.tk_record_text.specs.Text.{text}
+pub use Rattle.tk_record_text.specs.Text.{text, HasText}
 pub use Rattle.tk_streams.specs.Stream.{AppendsPrefix}

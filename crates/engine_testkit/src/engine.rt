@@ -1,13 +1,14 @@
 //! Engines: the trait, sinks that take their events, calls that emit them, locks, and `execute`.
 pub use tk_base::MAX_WORKERS;
 pub use tk_engine_events::{
-    emit, file_published, finish, finished, publish_file, register, report, reported, skip,
-    skipped, start, started,
+    Emitter, UnitContext, UnitEngine, UnitTable, Units, emit, file_published, finish, finished,
+    publish_file, register, report, reported, skip, skipped, start, started,
 };
 pub use tk_engine_execute::{
     Engine, OUT_OF_ORDER, Results, RunFault, Sink, SinkFault, TWICE, UnitFault, execute,
 };
-pub use tk_engine_hierarchical::{Body, Hierarchical, Reporter, Tests, run_tests};
-pub use tk_engine_unit_events::{Outcome, UnitRun};
+pub use tk_engine_hierarchical::{Body, Context, Hierarchical, Reporter, Tests, run_tests};
+pub use tk_engine_unit_events::Outcome;
 pub use tk_locks::{BookSeat, Need};
+pub use tk_overlaps::Meeting;
 pub use tk_queue_session::{RegisterFault, SendFault};

@@ -16,16 +16,18 @@ pub mod questions;
 pub mod record;
 
 pub use engine::{
-    Body, BookSeat, Engine, Hierarchical, Need, Outcome, Reporter, Results, RunFault, Sink, Tests,
-    UnitFault, UnitRun, emit, execute, file_published, finish, finished, publish_file, register,
-    report, reported, run_tests, skip, skipped, start, started,
+    Body, BookSeat, Context, Emitter, Engine, Hierarchical, Need, Outcome, Reporter, Results,
+    RunFault, Sink, Tests, UnitContext, UnitEngine, UnitFault, UnitTable, Units, emit, execute,
+    file_published, finish, finished, publish_file, register, report, reported, run_tests, skip,
+    skipped, start, started,
 };
-pub use plans::{ExecutionMode, LockMode, Plan, PlanFault, PlanNode, build_plan};
+pub use plans::{ExecutionMode, Plan, PlanFault, PlanNode, build_plan};
 pub use questions::{
-    Condition, Ending, Exact, Exclusive, Execution, Executions, InOrder, Lifecycle, LifecycleRule,
-    Loose, exclusive, executions, match_exactly, match_in_order, match_loosely,
+    Condition, Ending, Exact, Exclusive, Execution, Executions, Expect, Failure, InOrder,
+    Lifecycle, LifecycleRule, LockAnswer, Loose, exclusive, executions, locks, match_exactly,
+    match_in_order, match_loosely,
 };
 pub use record::{
-    DType, Descriptor, Event, Events, Expected, Kind, Mismatch, Pairs, Payload, Segment, Selection,
-    Status, Table, TableFault, Text,
+    DType, Descriptor, Event, Events, Expected, Kind, LockMode, Mismatch, Pairs, Payload, Segment,
+    Selection, Status, Table, TableFault, Text,
 };

@@ -4,11 +4,10 @@ ghost use Rattle.engine_testkit.specs.Outcome.TheVariants.{Successful};
 
 use crate::cases::{Case, CaseTable, Function};
 use engine_testkit::{
-    Body, ExecutionMode, Hierarchical, LockMode, Outcome, Pairs, PlanFault, PlanNode, Reporter,
-    Segment, Sink, Tests, Text, UnitFault, UnitRun, build_plan,
+    Body, Context, ExecutionMode, Hierarchical, LockMode, Outcome, PlanFault, PlanNode, Reporter,
+    Tests, UnitFault, build_plan,
 };
 use std::alloc::{AllocError, Global};
-use std::sync::Wait;
 
 // A success exactly where the function has the value that the case expects.
 fn outcome_of<F: Function>(alloc: Global, function: &F, case: Case) -> Result<Outcome, AllocError>
@@ -21,7 +20,7 @@ fn outcome_of<F: Function>(alloc: Global, function: &F, case: Case) -> Result<Ou
         return Ok(Outcome::Successful);
     }
     let message = format!(in alloc; "expected: <{expected}> but was: <{actual}>")?;
-    Ok(Outcome::Failed(Some(Text::from(message))))
+    Outcome::failed(alloc, message.as_str())
 }
 
 // A case as the body of a dynamic test.
@@ -38,30 +37,22 @@ impl<F: Function> Body for CaseBody<'_, F> {
     ghost may_end = { λ body outcome. (outcome ≡ Successful)
         ↔ (F.value body.function.now body.case.argument ≡ body.case.expected) };
 
-    fn run<R: Wait, S: Sink, K: UnitRun>(
-        &self,
-        _rt: &R,
-        alloc: Global,
-        _reporter: &mut Reporter<'_, S, K>,
-    ) -> Result<Outcome, UnitFault> {
-        Ok(outcome_of(alloc, self.function, self.case)?)
+    fn run<C: Context>(&self, test: &mut Reporter<C>) -> Result<Outcome, UnitFault> {
+        Ok(outcome_of(test.alloc(), self.function, self.case)?)
     }
 }
 
 // Runs each case as a dynamic test.
-fn run_cases<F: Function, R: Wait, S: Sink, K: UnitRun>(
-    rt: &R,
-    alloc: Global,
+fn run_cases<F: Function, C: Context>(
     function: &F,
     cases: &[Case],
-    reporter: &mut Reporter<'_, S, K>,
+    test: &mut Reporter<C>,
 ) -> Result<(), UnitFault> {
     for (index, case) in cases.iter().enumerate() {
-        let number = format!(in alloc; "{index}")?;
-        let segment = Segment::new(alloc, "case", number.as_str())?;
+        let number = format!(in test.alloc(); "{index}")?;
         let case = *case;
         let body = CaseBody { function, case };
-        reporter.dynamic_test(rt, alloc, &segment, number.as_str(), &body)?;
+        test.dynamic_test(("case", number.as_str()), number.as_str(), &body)?;
     }
     Ok(())
 }
@@ -85,24 +76,14 @@ pub struct CaseTests<'a, F> {
 
 impl<F: Function> Tests for CaseTests<'_, F> {
     // Runs the cases of a table, and publishes how many there are and where its log lies.
-    fn run<R: Wait, S: Sink, K: UnitRun>(
-        &self,
-        rt: &R,
-        alloc: Global,
-        key: u32,
-        reporter: &mut Reporter<'_, S, K>,
-    ) -> Result<Outcome, UnitFault> {
-        let Some(table) = table_of(self.tables, reporter.descriptor()?.name.as_str()) else {
+    fn run<C: Context>(&self, key: u32, test: &mut Reporter<C>) -> Result<Outcome, UnitFault> {
+        let Some(table) = table_of(self.tables, test.descriptor()?.name.as_str()) else {
             return Err(UnitFault::Own(key));
         };
-        let (name, cases) = (table.name, table.cases.len());
-        run_cases(rt, alloc, self.function, table.cases, reporter)?;
-        let number = Text::from(format!(in alloc; "{cases}")?);
-        reporter.report(
-            rt,
-            Pairs::shared_pair(alloc, Text::copy(alloc, "cases")?, number)?,
-        )?;
-        reporter.publish_file(rt, Text::from(format!(in alloc; "out/{name}.txt")?))?;
+        let (alloc, name, cases) = (test.alloc(), table.name, table.cases.len());
+        run_cases(self.function, table.cases, test)?;
+        test.report("cases", format!(in alloc; "{cases}")?.as_str())?;
+        test.file(format!(in alloc; "out/{name}.txt")?.as_str())?;
         Ok(Outcome::Successful)
     }
 }

@@ -1,29 +1,21 @@
 //! An engine of two tests: are the numbers 4 and 5 even?
 use engine_testkit::{
-    Hierarchical, Outcome, PlanFault, PlanNode, Reporter, Sink, Tests, Text, UnitFault, UnitRun,
-    build_plan,
+    Context, Hierarchical, Outcome, PlanFault, PlanNode, Reporter, Tests, UnitFault, build_plan,
 };
 use std::alloc::Global;
-use std::sync::Wait;
 
 /// Its tests `[engine:even]/[number:4]` and `[engine:even]/[number:5]`.
 #[derive(Drop)]
 pub struct EvenNumbers;
 
 impl Tests for EvenNumbers {
-    fn run<R: Wait, S: Sink, K: UnitRun>(
-        &self,
-        _rt: &R,
-        alloc: Global,
-        _key: u32,
-        reporter: &mut Reporter<'_, S, K>,
-    ) -> Result<Outcome, UnitFault> {
-        let name = reporter.descriptor()?.name.as_str();
+    fn run<C: Context>(&self, _key: u32, test: &mut Reporter<C>) -> Result<Outcome, UnitFault> {
+        let name = test.descriptor()?.name.as_str();
         let number = if name == "four" { 4 } else { 5 };
         if number % 2 == 0 {
             return Ok(Outcome::Successful);
         }
-        Ok(Outcome::Failed(Some(Text::copy(alloc, "odd")?)))
+        Ok(Outcome::failed(test.alloc(), "odd")?)
     }
 }
 

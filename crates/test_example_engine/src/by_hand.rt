@@ -3,4 +3,6 @@
 mod broken;
 mod cases;
 mod even;
+mod locks;
 mod numbers;
+mod units;

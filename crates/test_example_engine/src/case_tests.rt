@@ -1,8 +1,8 @@
 //! The engine of three tables, whose tests are all that it has of its own.
 use crate::halves::{Halves, has_record, has_report, tables};
 use engine_testkit::{
-    Condition, Ending, Engine, Events, Exact, Execution, Expected, InOrder, Kind, Lifecycle, Loose,
-    Results, Text, execute, executions, match_exactly, match_in_order, match_loosely,
+    Condition, Ending, Engine, Events, Exact, Execution, InOrder, Kind, Lifecycle, Loose, Results,
+    Text, execute, executions, match_exactly, match_in_order, match_loosely,
 };
 use example_engine::case_engine;
 use std::alloc::Global;
@@ -45,11 +45,14 @@ fn one_to_fifteen_workers_report_the_same(rt: HostRuntime) {
 
 // The record of a run by one worker: the tables one after another, each case before the next one.
 fn record() -> &'static [u8] {
-    b"testkit-record|2
+    b"testkit-record|3
 N|C|[engine:cases]|cases
 N|B|[engine:cases]/[table:right]|right
 N|B|[engine:cases]/[table:wrong]|wrong
 N|B|[engine:cases]/[table:later]|later
+L|1|W|numbers
+L|2|W|numbers
+L|3|W|numbers
 E|0|0|0|start
 E|1|1|1|start
 E|1|65536|1|dynamic|T|[engine:cases]/[table:right]/[case:0]|0
@@ -77,20 +80,6 @@ E|1|2|4|finish|ok
 E|1|3|5|skip|not yet
 E|0|0|6|finish|ok
 "
-}
-
-// How many numbers of the tests' events are other than expected.
-fn mismatches(alloc: Global, results: &Results) -> Option<usize> {
-    let mut expected = Expected::none();
-    expected.started = Some(7);
-    expected.skipped = Some(1);
-    expected.failed = Some(1);
-    let found = results
-        .test_events(alloc)
-        .ok()?
-        .check(alloc, &expected)
-        .ok()?;
-    Some(found.len())
 }
 
 // Whether a test failed so.
@@ -146,7 +135,6 @@ fn first_is_right(alloc: Global, results: &Results) -> Option<bool> {
 // Whether each event and each answer about the run is right.
 fn answers_hold(alloc: Global, results: &Results) -> bool {
     has_record(alloc, results, record())
-        && mismatches(alloc, results) == Some(0)
         && has_failed(alloc, results, "expected: <4> but was: <3>") == Some(true)
         && first_is_right(alloc, results) == Some(true)
 }

@@ -1,8 +1,7 @@
 //! Questions about each event of a run of the three tables.
-use crate::assertions::assert_matches;
 use crate::case_tests::run;
-use engine_testkit::questions::Mode;
-use std::test::Fail;
+use engine_testkit::{Expect, Failure, Selection};
+use std::alloc::AllocError;
 
 // What the tables emit beside their starts and finishes.
 const PUBLISHED: [&str; 6] = [
@@ -25,10 +24,14 @@ const TABLES: [&str; 6] = [
 ];
 
 #[test]
-fn each_table_is_asked_for(rt: HostRuntime) -> Result<(), Fail> {
+fn each_table_is_asked_for(rt: HostRuntime) -> Result<(), Failure> {
     let alloc = rt.alloc();
-    let results = run(&rt, alloc, 1).ok_or("no run")?;
-    let events = results.all_events(alloc)?;
-    assert_matches(&rt, alloc, Mode::Loosely, &events, &PUBLISHED)?;
-    assert_matches(&rt, alloc, Mode::InOrder, &events, &TABLES)
+    let results = run(&rt, alloc, 1).ok_or(AllocError)?;
+    Expect::of(alloc, results.recorded())
+        .lifecycle()?
+        .loosely(&PUBLISHED)?
+        .in_order(&TABLES)?
+        .pick(Selection::Tests)
+        .stats("started=7 skipped=1 failed=1")?;
+    Ok(())
 }

@@ -1,17 +1,15 @@
 //! An engine whose tests have bodies: what it records, and what it refuses.
-use crate::calls::{
-    engine_of, fault_of, publish_file, report, results_of, run_container, run_test, skip_test,
-};
+use crate::calls::{engine_of, fault_of, results_of};
 use std::alloc::{AllocError, Global};
 use std::sync::Wait;
 use std::sync::atomic::{AtomicU64, Ordering};
 use std::thread::Threads;
 use test_support::is_written_as;
-use tk_engine_execute::{OUT_OF_ORDER, Results, RunFault, Sink, TWICE, UnitFault};
-use tk_engine_hierarchical::{Body, Hierarchical, Reporter, Tests};
-use tk_engine_unit_events::{Outcome, UnitRun};
-use tk_ids::Text;
-use tk_plan_code::{ExecutionMode, LockMode, PlanNode};
+use tk_engine_execute::{OUT_OF_ORDER, Results, RunFault, TWICE, UnitFault};
+use tk_engine_hierarchical::{Body, Context, Hierarchical, Reporter, Tests};
+use tk_engine_unit_events::Outcome;
+use tk_ids::LockMode;
+use tk_plan_code::{ExecutionMode, PlanNode};
 use tk_query_lifecycle::Lifecycle;
 use tk_record::Statistics;
 
@@ -19,14 +17,9 @@ use tk_record::Statistics;
 struct Failing;
 
 impl Body for Failing {
-    fn run<R: Wait, S: Sink, K: UnitRun>(
-        &self,
-        rt: &R,
-        alloc: Global,
-        reporter: &mut Reporter<'_, S, K>,
-    ) -> Result<Outcome, UnitFault> {
-        publish_file(rt, alloc, "out.txt", reporter)?;
-        Ok(Outcome::Failed(Some(Text::copy(alloc, "boom")?)))
+    fn run<C: Context>(&self, test: &mut Reporter<C>) -> Result<Outcome, UnitFault> {
+        test.file("out.txt")?;
+        Ok(Outcome::failed(test.alloc(), "boom")?)
     }
 }
 
@@ -34,15 +27,10 @@ impl Body for Failing {
 struct Group;
 
 impl Body for Group {
-    fn run<R: Wait, S: Sink, K: UnitRun>(
-        &self,
-        rt: &R,
-        alloc: Global,
-        reporter: &mut Reporter<'_, S, K>,
-    ) -> Result<Outcome, UnitFault> {
-        run_test(rt, alloc, ("d", "1"), "one", &Failing, reporter)?;
-        reporter.set_stamp(500_000);
-        skip_test(rt, alloc, ("d", "2"), "two", reporter)?;
+    fn run<C: Context>(&self, test: &mut Reporter<C>) -> Result<Outcome, UnitFault> {
+        test.dynamic_test(("d", "1"), "one", &Failing)?;
+        test.set_stamp(500_000);
+        test.skip_test(("d", "2"), "two", "off")?;
         Ok(Outcome::Successful)
     }
 }
@@ -51,12 +39,7 @@ impl Body for Group {
 struct Faulting;
 
 impl Body for Faulting {
-    fn run<R: Wait, S: Sink, K: UnitRun>(
-        &self,
-        _rt: &R,
-        _alloc: Global,
-        _reporter: &mut Reporter<'_, S, K>,
-    ) -> Result<Outcome, UnitFault> {
+    fn run<C: Context>(&self, _test: &mut Reporter<C>) -> Result<Outcome, UnitFault> {
         Err(UnitFault::Own(9))
     }
 }
@@ -78,54 +61,39 @@ pub(crate) struct Sample {
     then: Then,
 }
 
-fn first_test<R: Wait, S: Sink, K: UnitRun>(
-    rt: &R,
-    alloc: Global,
-    reporter: &mut Reporter<'_, S, K>,
-) -> Result<Outcome, UnitFault> {
-    report(rt, alloc, &[("k", "v")], reporter)?;
-    run_container(rt, alloc, ("d", "g"), "group", &Group, reporter)?;
+fn first_test<C: Context>(test: &mut Reporter<C>) -> Result<Outcome, UnitFault> {
+    test.report("k", "v")?;
+    test.dynamic_container(("d", "g"), "group", &Group)?;
     Ok(Outcome::Successful)
 }
 
 // Registers what has the id of the static test below it, where it is to.
-fn third_test<R: Wait, S: Sink, K: UnitRun>(
-    rt: &R,
-    alloc: Global,
-    then: Then,
-    reporter: &mut Reporter<'_, S, K>,
-) -> Result<Outcome, UnitFault> {
+fn third_test<C: Context>(then: Then, test: &mut Reporter<C>) -> Result<Outcome, UnitFault> {
     if matches!(then, Then::RegistersStatic) {
-        run_test(rt, alloc, ("t", "4"), "y", &Failing, reporter)?;
+        test.dynamic_test(("t", "4"), "y", &Failing)?;
     }
     Ok(Outcome::Successful)
 }
 
 impl Tests for Sample {
-    fn run<R: Wait, S: Sink, K: UnitRun>(
-        &self,
-        rt: &R,
-        alloc: Global,
-        key: u32,
-        reporter: &mut Reporter<'_, S, K>,
-    ) -> Result<Outcome, UnitFault> {
+    fn run<C: Context>(&self, key: u32, test: &mut Reporter<C>) -> Result<Outcome, UnitFault> {
         if key == 1 {
-            return first_test(rt, alloc, reporter);
+            return first_test(test);
         }
         if key != 2 {
-            return third_test(rt, alloc, self.then, reporter);
+            return third_test(self.then, test);
         }
-        reporter.set_stamp(1_000_000);
-        run_test(rt, alloc, ("d", "x"), "x", &Failing, reporter)?;
+        test.set_stamp(1_000_000);
+        test.dynamic_test(("d", "x"), "x", &Failing)?;
         match self.then {
             Then::Aborts | Then::RegistersStatic => Ok(Outcome::Aborted(None)),
             Then::RegistersTwice => {
-                skip_test(rt, alloc, ("d", "x"), "y", reporter)?;
+                test.skip_test(("d", "x"), "y", "off")?;
                 Ok(Outcome::Successful)
             }
             Then::Faults => Err(UnitFault::Own(7)),
             Then::FaultsBelow => {
-                run_test(rt, alloc, ("d", "y"), "y", &Faulting, reporter)?;
+                test.dynamic_test(("d", "y"), "y", &Faulting)?;
                 Ok(Outcome::Successful)
             }
         }
@@ -302,13 +270,7 @@ struct Alone {
 }
 
 impl Tests for Alone {
-    fn run<R: Wait, S: Sink, K: UnitRun>(
-        &self,
-        _rt: &R,
-        _alloc: Global,
-        _key: u32,
-        _reporter: &mut Reporter<'_, S, K>,
-    ) -> Result<Outcome, UnitFault> {
+    fn run<C: Context>(&self, _key: u32, _test: &mut Reporter<C>) -> Result<Outcome, UnitFault> {
         let mut alone = self.inside.fetch_add(1, Ordering::SeqCst) == 0;
         for _ in 0..1000 {
             alone = alone && self.inside.load(Ordering::SeqCst) == 1;

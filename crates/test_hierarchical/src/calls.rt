@@ -2,11 +2,10 @@
 use std::alloc::Global;
 use std::sync::Wait;
 use std::thread::Threads;
-use tk_engine_execute::{Engine, Results, RunFault, Sink, UnitFault, execute};
-use tk_engine_hierarchical::{Body, Hierarchical, Reporter, Tests};
-use tk_engine_unit_events::UnitRun;
+use tk_engine_execute::{Engine, Results, RunFault, UnitFault, execute};
+use tk_engine_hierarchical::{Context, Hierarchical, Reporter, Tests};
 use tk_events::Pairs;
-use tk_ids::{Segment, Text};
+use tk_ids::Text;
 use tk_plan_code::PlanNode;
 use tk_plan_reading::build_plan;
 
@@ -40,63 +39,14 @@ pub(crate) fn fault_of<R: Threads + Wait + Sync, E: Engine + Drop>(
 }
 
 /// Publishes an entry of these pairs.
-pub(crate) fn report<R: Wait, S: Sink, K: UnitRun>(
-    rt: &R,
-    alloc: Global,
+pub(crate) fn report_pairs<C: Context>(
     pairs: &[(&str, &str)],
-    reporter: &mut Reporter<'_, S, K>,
+    test: &mut Reporter<C>,
 ) -> Result<(), UnitFault> {
+    let alloc = test.alloc();
     let mut entry = Pairs::new(alloc);
     for (key, value) in pairs {
         entry.push(Text::copy(alloc, key)?, Text::copy(alloc, value)?)?;
     }
-    reporter.report(rt, entry)
-}
-
-/// Publishes a file with this path.
-pub(crate) fn publish_file<R: Wait, S: Sink, K: UnitRun>(
-    rt: &R,
-    alloc: Global,
-    path: &str,
-    reporter: &mut Reporter<'_, S, K>,
-) -> Result<(), UnitFault> {
-    reporter.publish_file(rt, Text::copy(alloc, path)?)
-}
-
-/// Runs a dynamic test with this segment, name and body.
-pub(crate) fn run_test<R: Wait, S: Sink, K: UnitRun, B: Body>(
-    rt: &R,
-    alloc: Global,
-    segment: (&str, &str),
-    name: &str,
-    body: &B,
-    reporter: &mut Reporter<'_, S, K>,
-) -> Result<(), UnitFault> {
-    let segment = Segment::new(alloc, segment.0, segment.1)?;
-    reporter.dynamic_test(rt, alloc, &segment, name, body)
-}
-
-/// Runs a dynamic container with this segment, name and body.
-pub(crate) fn run_container<R: Wait, S: Sink, K: UnitRun, B: Body>(
-    rt: &R,
-    alloc: Global,
-    segment: (&str, &str),
-    name: &str,
-    body: &B,
-    reporter: &mut Reporter<'_, S, K>,
-) -> Result<(), UnitFault> {
-    let segment = Segment::new(alloc, segment.0, segment.1)?;
-    reporter.dynamic_container(rt, alloc, &segment, name, body)
-}
-
-/// Skips a dynamic test with this segment and name, for the reason `off`.
-pub(crate) fn skip_test<R: Wait, S: Sink, K: UnitRun>(
-    rt: &R,
-    alloc: Global,
-    segment: (&str, &str),
-    name: &str,
-    reporter: &mut Reporter<'_, S, K>,
-) -> Result<(), UnitFault> {
-    let segment = Segment::new(alloc, segment.0, segment.1)?;
-    reporter.skip_test(rt, alloc, &segment, name, Text::copy(alloc, "off")?)
+    test.report_pairs(entry)
 }

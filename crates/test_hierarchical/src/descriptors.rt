@@ -1,26 +1,20 @@
 //! What a test learns of itself, and outcomes as bodies.
-use crate::calls::{engine_of, results_of, run_test};
+use crate::calls::{engine_of, results_of};
 use std::alloc::Global;
 use std::sync::Wait;
 use std::thread::Threads;
 use test_support::is_written_as;
-use tk_engine_execute::{Sink, UnitFault};
-use tk_engine_hierarchical::{Body, Hierarchical, Reporter, Tests};
-use tk_engine_unit_events::{Outcome, UnitRun};
-use tk_ids::Text;
+use tk_engine_execute::UnitFault;
+use tk_engine_hierarchical::{Body, Context, Hierarchical, Reporter, Tests};
+use tk_engine_unit_events::Outcome;
 use tk_plan_code::{ExecutionMode, PlanNode};
 
 // A body that succeeds where no static descriptor runs.
 struct Nameless;
 
 impl Body for Nameless {
-    fn run<R: Wait, S: Sink, K: UnitRun>(
-        &self,
-        _rt: &R,
-        _alloc: Global,
-        reporter: &mut Reporter<'_, S, K>,
-    ) -> Result<Outcome, UnitFault> {
-        if reporter.descriptor().is_ok() {
+    fn run<C: Context>(&self, test: &mut Reporter<C>) -> Result<Outcome, UnitFault> {
+        if test.descriptor().is_ok() {
             return Ok(Outcome::Failed(None));
         }
         Ok(Outcome::Successful)
@@ -32,17 +26,11 @@ impl Body for Nameless {
 struct Named;
 
 impl Tests for Named {
-    fn run<R: Wait, S: Sink, K: UnitRun>(
-        &self,
-        rt: &R,
-        alloc: Global,
-        _key: u32,
-        reporter: &mut Reporter<'_, S, K>,
-    ) -> Result<Outcome, UnitFault> {
-        let name = reporter.descriptor()?.name.try_clone()?;
-        run_test(rt, alloc, ("d", "1"), "nameless", &Nameless, reporter)?;
-        let gone = Outcome::Aborted(Some(Text::copy(alloc, "gone")?));
-        run_test(rt, alloc, ("d", "2"), "aborted", &gone, reporter)?;
+    fn run<C: Context>(&self, _key: u32, test: &mut Reporter<C>) -> Result<Outcome, UnitFault> {
+        let name = test.descriptor()?.name.try_clone()?;
+        test.dynamic_test(("d", "1"), "nameless", &Nameless)?;
+        let gone = Outcome::aborted(test.alloc(), "gone")?;
+        test.dynamic_test(("d", "2"), "aborted", &gone)?;
         Ok(Outcome::Failed(Some(name)))
     }
 }

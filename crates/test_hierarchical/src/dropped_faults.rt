@@ -1,11 +1,11 @@
 //! Bodies that drop the fault of a dynamic test, and go on.
-use crate::calls::{engine_of, fault_of, report, run_container, run_test};
+use crate::calls::{engine_of, fault_of, report_pairs};
 use std::alloc::Global;
 use std::sync::Wait;
 use std::thread::Threads;
-use tk_engine_execute::{Sink, UnitFault};
-use tk_engine_hierarchical::{Body, Reporter, Tests};
-use tk_engine_unit_events::{Outcome, UnitRun};
+use tk_engine_execute::UnitFault;
+use tk_engine_hierarchical::{Body, Context, Reporter, Tests};
+use tk_engine_unit_events::Outcome;
 use tk_plan_code::PlanNode;
 
 // The body of a dynamic test.
@@ -19,17 +19,12 @@ enum Below {
 }
 
 impl Body for Below {
-    fn run<R: Wait, S: Sink, K: UnitRun>(
-        &self,
-        rt: &R,
-        alloc: Global,
-        reporter: &mut Reporter<'_, S, K>,
-    ) -> Result<Outcome, UnitFault> {
+    fn run<C: Context>(&self, test: &mut Reporter<C>) -> Result<Outcome, UnitFault> {
         match self {
             Below::Succeeds => Ok(Outcome::Successful),
             Below::Fails => Err(UnitFault::Own(9)),
             Below::PublishesUnlawful => {
-                report(rt, alloc, &[("k", "v"), ("k", "w")], reporter)?;
+                report_pairs(&[("k", "v"), ("k", "w")], test)?;
                 Ok(Outcome::Successful)
             }
         }
@@ -41,13 +36,8 @@ impl Body for Below {
 struct Dropping(Below);
 
 impl Body for Dropping {
-    fn run<R: Wait, S: Sink, K: UnitRun>(
-        &self,
-        rt: &R,
-        alloc: Global,
-        reporter: &mut Reporter<'_, S, K>,
-    ) -> Result<Outcome, UnitFault> {
-        drop(run_test(rt, alloc, ("d", "1"), "d", &self.0, reporter));
+    fn run<C: Context>(&self, test: &mut Reporter<C>) -> Result<Outcome, UnitFault> {
+        drop(test.dynamic_test(("d", "1"), "d", &self.0));
         Ok(Outcome::Successful)
     }
 }
@@ -65,36 +55,26 @@ enum Doing {
     DropsTwice,
 }
 
-fn register_twice<R: Wait, S: Sink, K: UnitRun>(
-    rt: &R,
-    alloc: Global,
-    reporter: &mut Reporter<'_, S, K>,
-) -> Result<Outcome, UnitFault> {
-    run_test(rt, alloc, ("d", "1"), "d", &Below::Succeeds, reporter)?;
-    drop(run_test(rt, alloc, ("d", "1"), "d", &Below::Succeeds, reporter));
+fn register_twice<C: Context>(test: &mut Reporter<C>) -> Result<Outcome, UnitFault> {
+    test.dynamic_test(("d", "1"), "d", &Below::Succeeds)?;
+    drop(test.dynamic_test(("d", "1"), "d", &Below::Succeeds));
     Ok(Outcome::Successful)
 }
 
 impl Tests for Doing {
-    fn run<R: Wait, S: Sink, K: UnitRun>(
-        &self,
-        rt: &R,
-        alloc: Global,
-        _key: u32,
-        reporter: &mut Reporter<'_, S, K>,
-    ) -> Result<Outcome, UnitFault> {
+    fn run<C: Context>(&self, _key: u32, test: &mut Reporter<C>) -> Result<Outcome, UnitFault> {
         match *self {
-            Doing::Drops(below) => Dropping(below).run(rt, alloc, reporter),
+            Doing::Drops(below) => Dropping(below).run(test),
             Doing::DropsBelow(below) => {
                 let body = Dropping(below);
-                drop(run_container(rt, alloc, ("d", "c"), "c", &body, reporter));
+                drop(test.dynamic_container(("d", "c"), "c", &body));
                 Ok(Outcome::Successful)
             }
             Doing::DropsAndFails(below) => {
-                let _outcome = Dropping(below).run(rt, alloc, reporter)?;
+                let _outcome = Dropping(below).run(test)?;
                 Err(UnitFault::Own(7))
             }
-            Doing::DropsTwice => register_twice(rt, alloc, reporter),
+            Doing::DropsTwice => register_twice(test),
         }
     }
 }

@@ -1,11 +1,11 @@
 //! As much as a body may register and emit, and one more; and what is unlawful.
-use crate::calls::{engine_of, fault_of, publish_file, report, run_container, skip_test};
+use crate::calls::{engine_of, fault_of, report_pairs};
 use std::alloc::{AllocError, Global};
 use std::sync::Wait;
 use std::thread::Threads;
-use tk_engine_execute::{RunFault, Sink, SinkFault, UnitFault};
-use tk_engine_hierarchical::{Body, Reporter, Tests};
-use tk_engine_unit_events::{Outcome, UnitRun};
+use tk_engine_execute::{RunFault, SinkFault, UnitFault};
+use tk_engine_hierarchical::{Body, Context, Reporter, Tests};
+use tk_engine_unit_events::Outcome;
 use tk_ids::IdFault;
 use tk_plan_code::{ExecutionMode, PlanNode};
 use tk_queue_session::{RegisterFault, SendFault};
@@ -34,13 +34,8 @@ enum Doing {
 struct Above<B>(B);
 
 impl<B: Body> Body for Above<B> {
-    fn run<R: Wait, S: Sink, K: UnitRun>(
-        &self,
-        rt: &R,
-        alloc: Global,
-        reporter: &mut Reporter<'_, S, K>,
-    ) -> Result<Outcome, UnitFault> {
-        run_container(rt, alloc, ("d", "d"), "d", &self.0, reporter)?;
+    fn run<C: Context>(&self, test: &mut Reporter<C>) -> Result<Outcome, UnitFault> {
+        test.dynamic_container(("d", "d"), "d", &self.0)?;
         Ok(Outcome::Successful)
     }
 }
@@ -53,56 +48,40 @@ fn letters(alloc: Global, count: u32) -> Result<String, AllocError> {
     Ok(value)
 }
 
-fn skip_all<R: Wait, S: Sink, K: UnitRun>(
-    rt: &R,
-    alloc: Global,
-    count: u32,
-    reporter: &mut Reporter<'_, S, K>,
-) -> Result<(), UnitFault> {
+fn skip_all<C: Context>(count: u32, test: &mut Reporter<C>) -> Result<(), UnitFault> {
     for number in 0..count {
-        let value = format!(in alloc; "{number}")?;
-        skip_test(rt, alloc, ("d", value.as_str()), "d", reporter)?;
+        let value = format!(in test.alloc(); "{number}")?;
+        test.skip_test(("d", value.as_str()), "d", "off")?;
     }
     Ok(())
 }
 
-fn report_all<R: Wait, S: Sink, K: UnitRun>(
-    rt: &R,
-    alloc: Global,
-    count: u32,
-    reporter: &mut Reporter<'_, S, K>,
-) -> Result<(), UnitFault> {
+fn report_all<C: Context>(count: u32, test: &mut Reporter<C>) -> Result<(), UnitFault> {
     for _ in 0..count {
-        report(rt, alloc, &[], reporter)?;
+        report_pairs(&[], test)?;
     }
     Ok(())
 }
 
 impl Tests for Doing {
-    fn run<R: Wait, S: Sink, K: UnitRun>(
-        &self,
-        rt: &R,
-        alloc: Global,
-        _key: u32,
-        reporter: &mut Reporter<'_, S, K>,
-    ) -> Result<Outcome, UnitFault> {
+    fn run<C: Context>(&self, _key: u32, test: &mut Reporter<C>) -> Result<Outcome, UnitFault> {
         match self {
             Doing::Letters(count) => {
-                let value = letters(alloc, *count)?;
-                skip_test(rt, alloc, ("d", value.as_str()), "d", reporter)?;
+                let value = letters(test.alloc(), *count)?;
+                test.skip_test(("d", value.as_str()), "d", "off")?;
             }
             Doing::FourLevels => {
                 let body = Above(Above(Above(Above(Outcome::Successful))));
-                return body.run(rt, alloc, reporter);
+                return body.run(test);
             }
             Doing::FiveLevels => {
                 let body = Above(Above(Above(Above(Above(Outcome::Successful)))));
-                return body.run(rt, alloc, reporter);
+                return body.run(test);
             }
-            Doing::Registrations(count) => skip_all(rt, alloc, *count, reporter)?,
-            Doing::Entries(count) => report_all(rt, alloc, *count, reporter)?,
-            Doing::FallingKeys => report(rt, alloc, &[("b", "v"), ("a", "v")], reporter)?,
-            Doing::EmptyPath => publish_file(rt, alloc, "", reporter)?,
+            Doing::Registrations(count) => skip_all(*count, test)?,
+            Doing::Entries(count) => report_all(*count, test)?,
+            Doing::FallingKeys => report_pairs(&[("b", "v"), ("a", "v")], test)?,
+            Doing::EmptyPath => test.file("")?,
         }
         Ok(Outcome::Successful)
     }

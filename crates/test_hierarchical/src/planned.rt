@@ -5,10 +5,10 @@ use std::alloc::{AllocError, Global};
 use std::sync::Wait;
 use std::thread::Threads;
 use test_support::{is_written_as, record_of};
-use tk_engine_execute::{Results, Sink, UnitFault};
-use tk_engine_hierarchical::{Reporter, Tests};
+use tk_engine_execute::{Results, UnitFault};
+use tk_engine_hierarchical::{Context, Reporter, Tests};
 use tk_engine_scripted::Scripted;
-use tk_engine_unit_events::{Outcome, UnitRun};
+use tk_engine_unit_events::Outcome;
 use tk_events::Status;
 use tk_plan_code::{ExecutionMode, PlanNode};
 use tk_plan_reading::build_plan;
@@ -24,13 +24,7 @@ impl Tests for Silent {
 
     ghost may_run = { λ tests key before after outcome. after ≡ before };
 
-    fn run<R: Wait, S: Sink, K: UnitRun>(
-        &self,
-        _rt: &R,
-        _alloc: Global,
-        _key: u32,
-        _reporter: &mut Reporter<'_, S, K>,
-    ) -> Result<Outcome, UnitFault> {
+    fn run<C: Context>(&self, _key: u32, _test: &mut Reporter<C>) -> Result<Outcome, UnitFault> {
         Ok(Outcome::Successful)
     }
 }

@@ -1,14 +1,13 @@
 //! Runs of bodies, with ample memory and with any one request for memory refused. What is refused
 //! is asked once more, and then it has to succeed.
 use crate::bodies::{is_recorded, sample_engine};
-use crate::calls::skip_test;
 use std::alloc::Global;
 use std::sync::Wait;
 use std::thread::Threads;
 use test_support::{Ending, is_done, refused_if};
-use tk_engine_execute::{RunFault, Sink, SinkFault, UnitFault, execute};
-use tk_engine_hierarchical::{Hierarchical, Reporter, Tests};
-use tk_engine_unit_events::{Outcome, UnitRun};
+use tk_engine_execute::{RunFault, SinkFault, UnitFault, execute};
+use tk_engine_hierarchical::{Context, Hierarchical, Reporter, Tests};
+use tk_engine_unit_events::Outcome;
 use tk_plan_code::PlanNode;
 use tk_plan_reading::build_plan;
 use tk_queue_session::RegisterFault;
@@ -54,15 +53,9 @@ fn a_run_of_bodies(rt: HostRuntime) {
 struct Insisting;
 
 impl Tests for Insisting {
-    fn run<R: Wait, S: Sink, K: UnitRun>(
-        &self,
-        rt: &R,
-        alloc: Global,
-        _key: u32,
-        reporter: &mut Reporter<'_, S, K>,
-    ) -> Result<Outcome, UnitFault> {
-        if skip_test(rt, alloc, ("d", "1"), "d", reporter).is_err() {
-            skip_test(rt, alloc, ("d", "1"), "d", reporter)?;
+    fn run<C: Context>(&self, _key: u32, test: &mut Reporter<C>) -> Result<Outcome, UnitFault> {
+        if test.skip_test(("d", "1"), "d", "off").is_err() {
+            test.skip_test(("d", "1"), "d", "off")?;
         }
         Ok(Outcome::Successful)
     }

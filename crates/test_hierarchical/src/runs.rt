@@ -2,12 +2,11 @@
 use crate::bodies::{is_recorded, sample_engine};
 use crate::calls::engine_of;
 use std::alloc::Global;
-use std::sync::Wait;
-use std::sync::atomic::{AtomicU64, Ordering};
+use std::sync::{Mutex, Wait};
 use std::thread::Threads;
-use tk_engine_execute::{RunFault, Sink, UnitFault};
-use tk_engine_hierarchical::{Reporter, Tests, run_tests};
-use tk_engine_unit_events::{Outcome, UnitRun};
+use tk_engine_execute::{RunFault, UnitFault};
+use tk_engine_hierarchical::{Context, Reporter, Tests, run_tests};
+use tk_engine_unit_events::Outcome;
 use tk_plan_code::PlanNode;
 
 // Whether a run by one worker has the record of the sample.
@@ -41,19 +40,15 @@ fn numbers_beyond_the_limits(rt: HostRuntime) {
 // A test that counts how often it runs, and fails with 7 where it is to.
 #[derive(Drop)]
 struct Counted<'c> {
-    runs: &'c AtomicU64,
+    runs: &'c Mutex<u64>,
     fails: bool,
 }
 
 impl Tests for Counted<'_> {
-    fn run<R: Wait, S: Sink, K: UnitRun>(
-        &self,
-        _rt: &R,
-        _alloc: Global,
-        _key: u32,
-        _reporter: &mut Reporter<'_, S, K>,
-    ) -> Result<Outcome, UnitFault> {
-        self.runs.fetch_add(1, Ordering::SeqCst);
+    fn run<C: Context>(&self, _key: u32, test: &mut Reporter<C>) -> Result<Outcome, UnitFault> {
+        let mut runs = self.runs.lock(test.rt());
+        *runs = runs.saturating_add(1);
+        drop(runs);
         if self.fails {
             Err(UnitFault::Own(7))
         } else {
@@ -73,7 +68,7 @@ enum Ending {
 fn how_it_ends<R: Threads + Wait + Sync>(
     rt: &R,
     alloc: Global,
-    runs: &AtomicU64,
+    runs: &Mutex<u64>,
     fails: bool,
 ) -> Option<Ending> {
     let root = PlanNode::test(alloc, ("t", "t"), "t");
@@ -91,9 +86,9 @@ fn how_it_ends<R: Threads + Wait + Sync>(
 // The clauses speak of the record alone: a body that ran once more would not show there.
 #[test]
 fn each_body_runs_once(rt: HostRuntime) {
-    let runs = AtomicU64::new(0);
+    let runs = Mutex::new(0);
     assert!(rt; how_it_ends(&rt, rt.alloc(), &runs, false) == Some(Ending::Done));
-    assert!(rt; runs.load(Ordering::SeqCst) == 1);
+    assert!(rt; *runs.lock(&rt) == 1);
     assert!(rt; how_it_ends(&rt, rt.alloc(), &runs, true) == Some(Ending::Own(0, 7)));
-    assert!(rt; runs.load(Ordering::SeqCst) == 2);
+    assert!(rt; *runs.lock(&rt) == 2);
 }

@@ -1,7 +1,8 @@
 //! Each fault of a plan in code, and which comes first.
 use std::alloc::{AllocError, Global};
 use tk_events::Status;
-use tk_plan_code::{ExecutionMode, LockMode, PlanNode};
+use tk_ids::LockMode;
+use tk_plan_code::{ExecutionMode, PlanNode};
 use tk_plan_reading::build_plan;
 
 type Node = Result<PlanNode<'static>, AllocError>;

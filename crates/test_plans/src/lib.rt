@@ -11,3 +11,5 @@ mod plans;
 mod refusals;
 #[cfg(test)]
 mod shown_plans;
+#[cfg(test)]
+mod table_locks;

@@ -1,6 +1,7 @@
 //! Plans in code at their limits, and one beyond.
 use std::alloc::{AllocError, Global};
-use tk_plan_code::{LockMode, PlanNode};
+use tk_ids::LockMode;
+use tk_plan_code::PlanNode;
 use tk_plan_reading::build_plan;
 
 // Whether a plan is built, or the fault that is shown so is answered.

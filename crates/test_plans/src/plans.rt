@@ -2,9 +2,9 @@
 use crate::shown_plans::shown;
 use std::alloc::{AllocError, Global};
 use tk_events::Status;
-use tk_ids::{DType, UniqueId};
+use tk_ids::{DType, LockMode, UniqueId};
 use tk_plan::Plan;
-use tk_plan_code::{ExecutionMode, LockMode, PlanNode};
+use tk_plan_code::{ExecutionMode, PlanNode};
 use tk_plan_json_members::PlanFault;
 use tk_plan_reading::{build_plan, read_plan};
 

@@ -20,6 +20,8 @@ mod lanes;
 #[cfg(test)]
 mod loading;
 #[cfg(test)]
+mod lock_lines;
+#[cfg(test)]
 mod refusals;
 #[cfg(test)]
 mod shared_pairs;

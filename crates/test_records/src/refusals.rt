@@ -2,21 +2,19 @@
 //! one answers `Memory` are made once more, and then all have to succeed.
 use crate::appending::{Answer, append};
 use std::alloc::Global;
-use test_support::{again_if_refused, is_written, read_again, start, two_tests};
+use test_support::{
+    again_if_refused, is_written, read_again, record_again, start, two_locked_tests, two_tests,
+};
 use tk_events::Entry;
 use tk_ids::Text;
 use tk_record::Record;
 use tk_record_text::{write_record, write_tail};
 use tk_streams::ByteTarget;
 
-// Whether the record of two tests is written.
-fn is_record_written(alloc: Global, record: &Record) -> Option<bool> {
+// Whether the record of a text is written as that text.
+fn is_record_written(alloc: Global, record: &Record, text: &[u8]) -> Option<bool> {
     let mut target = ByteTarget::new(alloc);
-    is_written(
-        write_record(alloc, record, &mut target),
-        &target,
-        two_tests(),
-    )
+    is_written(write_record(alloc, record, &mut target), &target, text)
 }
 
 // The tail of the failure.
@@ -31,7 +29,7 @@ fn is_tail_written(alloc: Global, record: &Record) -> Option<bool> {
 
 // Whether the texts of a record are written, also where one request for memory is refused.
 fn texts_hold(alloc: Global, record: &Record) -> bool {
-    let written = again_if_refused(|| is_record_written(alloc, record));
+    let written = again_if_refused(|| is_record_written(alloc, record, two_tests()));
     let tail = again_if_refused(|| is_tail_written(alloc, record));
     written == Some(true) && tail == Some(true)
 }
@@ -40,6 +38,20 @@ fn texts_hold(alloc: Global, record: &Record) -> bool {
 fn texts(rt: HostRuntime) {
     let hold = match read_again(rt.alloc()) {
         Some(record) => texts_hold(rt.alloc(), &record),
+        None => false,
+    };
+    assert!(rt; hold);
+}
+
+// Whether the record of locked tests is written, also where one request for memory is refused.
+fn locks_hold(alloc: Global, record: &Record) -> bool {
+    again_if_refused(|| is_record_written(alloc, record, two_locked_tests())) == Some(true)
+}
+
+#[test]
+fn locks(rt: HostRuntime) {
+    let hold = match record_again(rt.alloc(), two_locked_tests()) {
+        Some(record) => locks_hold(rt.alloc(), &record),
         None => false,
     };
     assert!(rt; hold);

@@ -1,6 +1,6 @@
 //! The table of descriptors.
 use std::alloc::{AllocError, Global};
-use tk_ids::{DType, Descriptor, IdFault, Segment, Table, TableFault, Text, UniqueId};
+use tk_ids::{DType, Descriptor, IdFault, Locks, Segment, Table, TableFault, Text, UniqueId};
 
 type Answer = Result<u32, TableFault>;
 
@@ -35,6 +35,7 @@ fn container(alloc: Global, id: UniqueId) -> Result<Descriptor, AllocError> {
         id,
         name: Text::copy(alloc, "one")?,
         dtype: DType::Container,
+        locks: Locks::new(),
     })
 }
 

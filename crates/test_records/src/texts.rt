@@ -1,6 +1,6 @@
 //! Record texts that are read and written again.
 use std::alloc::{AllocError, Global};
-use test_support::{is_written_as, record_of, two_tests};
+use test_support::{is_written_as, record_of, two_locked_tests, two_tests};
 
 // The lines of each tail of version 1, with escapes and without.
 fn each_tail() -> &'static [u8] {
@@ -41,4 +41,19 @@ fn texts_written_again(rt: HostRuntime) {
     assert!(rt; is_read_and_written_as(rt.alloc(), two_tests(), two_tests()));
     assert!(rt; is_read_and_written_as(rt.alloc(), files(), files()));
     assert!(rt; matches!(is_renewed(rt.alloc(), each_tail()), Ok(true)));
+}
+
+// A text of version 3 without a lock, and the same in version 2.
+fn no_lock() -> &'static [u8] {
+    b"testkit-record|3\nN|T|[engine:e]|e\nE|1|0|1|file|a\n"
+}
+
+fn no_lock_written() -> &'static [u8] {
+    b"testkit-record|2\nN|T|[engine:e]|e\nE|1|0|1|file|a\n"
+}
+
+#[test]
+fn locks_written_again(rt: HostRuntime) {
+    assert!(rt; is_read_and_written_as(rt.alloc(), two_locked_tests(), two_locked_tests()));
+    assert!(rt; is_read_and_written_as(rt.alloc(), no_lock(), no_lock_written()));
 }

@@ -159,13 +159,16 @@ pub fn conditions() -> [Sample; 2] {
 }
 
 /// A record of each version, with each tail.
-pub fn records() -> [Sample; 2] {
+pub fn records() -> [Sample; 3] {
     [
         lines(
             b"testkit-record|1\nN|B|[engine:a%2Fb]|\\\\\\p\\n\nE|1|65536|0|dynamic|T|[engine:a%2Fb]/[d:1]|one\nE|1|65536|1|start\nE|2|0|2|skip|a\\pb\nE|0|0|3|finish|ok\nE|0|0|4|finish|abort|\nE|0|0|5|finish|fail\nE|15|65536|0|report|a|1|b|\n",
         ),
         lines(
             b"testkit-record|2\nN|C|[engine:e]|e\nN|T|[engine:e]/[t:1]|one\nE|0|0|0|start\nE|1|1|1|start\nE|1|1|2|file|out/log.txt\nE|1|1|3|finish|fail|boom\nE|15|0|18446744073709551615|report|k|v\n",
+        ),
+        lines(
+            b"testkit-record|3\nN|C|[engine:e]|e\nN|T|[engine:e]/[t:1]|one\nL|0|R|a\\pb\nL|1|R|a\nL|1|W|b\nE|0|0|0|start\n",
         ),
     ]
 }

@@ -67,12 +67,15 @@ fn of_id(alloc: Global, text: &str) -> Answer {
     }
 }
 
-// Whether the record is written as the text from which it was read, with the header of version 2.
+// Whether the record is written as the text from which it was read, with the header of version 2 or
+// 3.
 fn is_renewed(alloc: Global, record: &Record, text: &[u8]) -> bool {
     let mut target = ByteTarget::new(alloc);
     let is_written = write_record(alloc, record, &mut target).is_ok();
     let written = target.bytes();
-    is_written && written.starts_with(b"testkit-record|2\n") && written.get(17..) == text.get(17..)
+    let has_header = written.starts_with(b"testkit-record|2\n")
+        || written.starts_with(b"testkit-record|3\n");
+    is_written && has_header && written.get(17..) == text.get(17..)
 }
 
 fn is_of_the_record(fault: &ReadFault) -> bool {

@@ -11,9 +11,10 @@ mod written;
 
 pub use devices::{OneByteSource, OneByteTarget};
 pub use endings::{Ending, again_if_refused, done_if, is_done, refused_if};
-pub use samples::{one_node, read_again, record_of, start, starts};
+pub use samples::{one_node, read_again, record_again, record_of, start, starts};
 pub use shown::{are_shown, are_shown_as, is_debugged_as, is_shown, is_shown_as};
 pub use texts::{
-    demo_plan, demo_report, small_replay, small_replay_taken, two_tests, two_tests_report,
+    demo_plan, demo_report, small_replay, small_replay_taken, two_locked_tests, two_tests,
+    two_tests_report,
 };
 pub use written::{is_cut, is_written, is_written_as};

@@ -40,14 +40,19 @@ fn is_refused(answer: &Result<Record, ReadFault>) -> bool {
     matches!(answer, Err(ReadFault::Memory))
 }
 
-/// The record of two tests, also where one request for memory is refused.
-pub fn read_again(alloc: Global) -> Option<Record> {
-    let answer = read_record(alloc, &mut ByteSource::new(two_tests()));
+/// The record of a text, also where one request for memory is refused.
+pub fn record_again(alloc: Global, text: &[u8]) -> Option<Record> {
+    let answer = read_record(alloc, &mut ByteSource::new(text));
     if is_refused(&answer) {
         drop(answer);
-        return record_of(alloc, two_tests());
+        return record_of(alloc, text);
     }
     answer.ok()
+}
+
+/// The record of two tests, also where one request for memory is refused.
+pub fn read_again(alloc: Global) -> Option<Record> {
+    record_again(alloc, two_tests())
 }
 
 fn append_start(record: &mut Record, worker: u8, stamp: u64) -> bool {

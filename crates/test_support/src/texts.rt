@@ -10,6 +10,11 @@ pub fn two_tests_report() -> &'static [u8] {
     b"skipped 1\nstarted 2\nfinished 2\naborted 0\nsucceeded 1\nfailed 1\nreporting 0\ndynamic 0\nfiles 0\n[engine:e]\n  start\n  finish|ok\n[engine:e]/[t:1]\n  start\n  finish|fail|boom\n[engine:e]/[t:2]\n  skip|off\n"
 }
 
+/// The text of a record of two tests with locks. One name has an escape, one is long.
+pub fn two_locked_tests() -> &'static [u8] {
+    b"testkit-record|3\nN|C|[engine:e]|e\nN|T|[engine:e]/[t:1]|one\nN|T|[engine:e]/[t:2]|two\nL|1|R|a\\pb\nL|1|W|db\nL|2|W|a resource with a long name\nL|2|R|db\nE|0|0|0|start\nE|1|1|1|start\nE|1|1|2|finish|ok\nE|0|0|9|finish|ok\n"
+}
+
 /// The text of a replay of two workers, in version 1, in which all is taken.
 pub fn small_replay() -> &'static [u8] {
     b"testkit-replay|1\nW|2\nN|T|[engine:e]|e\nE|1|0|10|start\nE|1|0|11|finish|ok\nE|2|0|20|report|k|v\nS|1|2|1|t|1|2|t|t|t|t\n"

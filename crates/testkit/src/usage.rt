@@ -10,6 +10,7 @@ pub(crate) const USAGE: &str = "usage:
   testkit ask match [SELECTION] MODE [CONDITION ..]    < RECORD   yes, or the first condition that fails
   testkit ask lifecycle                                < RECORD   does each descriptor start, finish and nest as it may?
   testkit ask exclusive CONDITION [CONDITION]          < RECORD   did tests that share a resource keep apart?
+  testkit ask locks                                    < RECORD   did tests that declare a lock keep apart?
   testkit ask report                                   < RECORD   each id's events, without workers, keys and stamps
   testkit ask explain QUESTION ..                      < RECORD   an answer, and why
   testkit replay                                       < REPLAY   plays a script of the event queue, prints the record
@@ -19,6 +20,6 @@ SELECTION  all, tests, containers, or a NAME
 NAME       skipped, started, finished, aborted, succeeded, failed, reporting, dynamic, files
 MODE       exactly, loosely, in-order
 CONDITION  as test, failed, 'failed(TEXT)', 'all(test,id(TEXT))'; docs/FORMATS.md has all
-QUESTION   the words of match; stats, list, executions, lifecycle or exclusive with its own words
+QUESTION   the words of match; stats, list, executions, lifecycle, exclusive or locks with its own words
 status     0 done, or yes; 1 no, or an expectation fails; 2 bad words or input; 3 a failure
 ";

@@ -21,7 +21,7 @@ use Rattle.tk_query.specs.declared.answers.InOrder.TheVariants as in_order
 use Rattle.tk_query_nearest.specs.Nearness.{IsNearest}
 use Rattle.tk_explanations.specs.MatchRows.{condition_row, found_rows, lacking_row, lacks, near_rows}
 use Rattle.tk_explanations.specs.Matches.{AreFirstFits, ExplainsExactly, ExplainsInOrder, ExplainsLoosely, IsLastFit, after, early_rows, exact_rows, last_of, unlike_rows}
-use Rattle.tk_explanations.specs.Collisions.{ExplainsExclusive, held_rows, holder_rows, is_held, names_some, overlap_rows, writers_among, writers_said}
+use Rattle.tk_explanations.specs.Collisions.{ExplainsExclusive, held_rows, holder_rows, is_held, names_some, collision_rows, writers_among, writers_said}
 use Rattle.testkit_questions.proofs.UniqueReading.{AreAlike}
 use Rattle.testkit_questions.proofs.UniqueReply.{as_many, exact_too, exclusive_too, in_order_too, like_at, loose_too, least_too, prefix, same_fits, same_holds}
 
@@ -205,7 +205,7 @@ holders_too asked w v r s y t writers readers (rows, (exclusive.Yes, is, told, b
 holders_too asked w v r s y t writers readers (rows, (exclusive.No p q, is, told, below, are, rows_are), text) =
     let too = exclusive_too asked w v r s writers readers (exclusive.No p q) is in
     let said = said_same asked w v r s writers readers p q in
-    let rows_too = are.4 ∙ ap (overlap_rows are.0 are.1) said in
+    let rows_too = are.4 ∙ ap (collision_rows are.0 are.1) said in
     (rows, (exclusive.No p q, too, told, below, (are.0, are.1, are.2, are.3, rows_too), rows_are), text)
 holders_too asked w v r s y t writers readers (rows, (exclusive.NoPair, is, told, below, are, rows_are), text) =
     let too = exclusive_too asked w v r s writers readers exclusive.NoPair is in

@@ -8,6 +8,7 @@ use Rattle.tk_query_conditions.specs.declared.conditions.Condition.{Condition}
 use Rattle.tk_explanations.specs.Collisions.{ExplainsExclusive}
 use Rattle.tk_explanations.specs.Laws.{IsUnique}
 use Rattle.tk_explanations.specs.Lifecycles.{ExplainsLifecycle}
+use Rattle.tk_explanations.specs.LockCollisions.{ExplainsLocks}
 use Rattle.tk_explanations.specs.Lists.{ExplainsExecutions, ExplainsList}
 use Rattle.tk_explanations.specs.Matches.{ExplainsExactly, ExplainsInOrder, ExplainsLoosely}
 use Rattle.tk_explanations.specs.Statistics.{ExplainsStatistics}
@@ -33,6 +34,7 @@ pub record AreUnique : Type 0 where
   pub executions : (asked : Selected) → IsUnique (ExplainsExecutions asked)
   pub exclusive : (asked : Selected) (w r : Condition) → IsUnique (ExplainsExclusive asked w r)
   pub lifecycle : (r : Recorded) → IsUnique (ExplainsLifecycle r)
+  pub locks : (asked : Selected) → IsUnique (ExplainsLocks asked)
   pub statistics : (asked : Selected) (e : Expected) → IsUnique (ExplainsStatistics asked e)
 
 module _ (unique : AreUnique) where
@@ -60,6 +62,7 @@ module _ (unique : AreUnique) where
   one_question (questions.Executions s) r y z o u a b =
       unique.executions (picked s r) y z o u a b
   one_question questions.Lifecycle r y z o u a b = unique.lifecycle r y z o u a b
+  one_question questions.Locks r y z o u a b = unique.locks (all_of r) y z o u a b
   one_question questions.Report r y z o u a b = one_answer questions.Report r y z o u a b
 
   one_explanation : (p q : Question) (r : Recorded) (y z : Bool) (o u : List ℕ) → AreSame p q

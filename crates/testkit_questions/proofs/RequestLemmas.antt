@@ -100,6 +100,7 @@ module _ (a : Reading) where
       (λ s. sound_end (questions.Executions s) (first + 1))
       (sound_end (questions.Executions All) first words)
   sound_after names.Lifecycle first words = sound_end questions.Lifecycle first words
+  sound_after names.Locks first words = sound_end questions.Locks first words
   sound_after names.Report first words = sound_end questions.Report first words
 
   sound_asked : (words : List (List ℕ)) → IsAskedAs words a → IsSound a
@@ -116,6 +117,7 @@ module _ (a : Reading) where
   sound_named names.Exclusive words = sound_after names.Exclusive 1 words
   sound_named names.Executions words = sound_after names.Executions 1 words
   sound_named names.Lifecycle words = sound_after names.Lifecycle 1 words
+  sound_named names.Locks words = sound_after names.Locks 1 words
   sound_named names.Report words = bad_word 0
 
   sound_explained : (words : List (List ℕ)) → IsExplainedAs words a → IsSound a

@@ -91,7 +91,8 @@ question_of name =
     if bytes_eq name (codes "list") then names.List else (
     if bytes_eq name (codes "exclusive") then names.Exclusive else (
     if bytes_eq name (codes "executions") then names.Executions else (
-    if bytes_eq name (codes "lifecycle") then names.Lifecycle else names.Report))))))
+    if bytes_eq name (codes "lifecycle") then names.Lifecycle else (
+    if bytes_eq name (codes "locks") then names.Locks else names.Report)))))))
 
 entitled : (n : QuestionName) → question_of (question_word n) ≡ n
 entitled names.Stats = refl
@@ -101,6 +102,7 @@ entitled names.List = refl
 entitled names.Exclusive = refl
 entitled names.Executions = refl
 entitled names.Lifecycle = refl
+entitled names.Locks = refl
 entitled names.Report = refl
 
 pub one_question : (m n : QuestionName) → question_word m ≡ question_word n → m ≡ n
@@ -456,6 +458,7 @@ module _ (a b : Reading) (s : IsOfWords a) (t : IsOfWords b) where
       (λ c rest. one_end (questions.Executions c) (first + 1) rest a b)
       (one_end (questions.Executions All) first words a b) h k
   one_after names.Lifecycle first words h k = one_end questions.Lifecycle first words a b h k
+  one_after names.Locks first words h k = one_end questions.Locks first words a b h k
   one_after names.Report first words h k = one_end questions.Report first words a b h k
 
   -- the same words never ask two questions
@@ -475,6 +478,7 @@ module _ (a b : Reading) (s : IsOfWords a) (t : IsOfWords b) where
   one_named names.Exclusive words h k = one_after names.Exclusive 1 words h k
   one_named names.Executions words h k = one_after names.Executions 1 words h k
   one_named names.Lifecycle words h k = one_after names.Lifecycle 1 words h k
+  one_named names.Locks words h k = one_after names.Locks 1 words h k
   one_named names.Report words h k = bad_first 0 h k
 
   pub one_explained : (words : List (List ℕ)) → IsExplainedAs words a → IsExplainedAs words b

@@ -36,10 +36,13 @@ use Rattle.testkit_questions.specs.declared.questions.Question.{Question}
 use Rattle.testkit_questions.specs.declared.questions.Question.TheVariants as questions
 use Rattle.tk_query_lifecycle.specs.declared.lifecycle_rules.Lifecycle.{Lifecycle}
 use Rattle.tk_query_lifecycle.proofs.LifecycleIsUnique.{lifecycle_is_unique}
+use Rattle.tk_query_locks.specs.AnswerTexts.{lock_answer_yes}
+use Rattle.tk_query_locks.specs.declared.answers.LockAnswer.{LockAnswer}
+use Rattle.tk_query_locks.proofs.AnswerIsUnique.{one_answer as one_lock_answer}
 use Rattle.tk_query.specs.AnswerTexts.{exact_yes, exclusive_yes, in_order_yes, loose_yes, position_text}
 use Rattle.testkit_questions.specs.Answers.{IsAnswerTo, IsExclusiveAnswer, IsMatchAnswer, events_where}
 use Rattle.testkit_questions.specs.Answers.{exact_line, exclusive_line, execution_line, in_order_line}
-use Rattle.testkit_questions.specs.Answers.{lifecycle_line, lifecycle_yes, loose_line, picked}
+use Rattle.testkit_questions.specs.Answers.{lifecycle_line, lifecycle_yes, lock_answer_line, loose_line, picked}
 use Rattle.testkit_questions.proofs.UniqueReading.{AreAlike, AreSame, alike_itself, equal, excluding}
 use Rattle.testkit_questions.proofs.UniqueReading.{listing, matching}
 
@@ -245,6 +248,11 @@ one_answer questions.Lifecycle r y z o u a b =
     let e = lifecycle_is_unique r a.0 b.0 a.1 b.1 in (
       a.2 ∙ ap (λ (x : Lifecycle). lifecycle_yes x) e ∙ sym b.2,
       a.3 ∙ ap (λ (x : Lifecycle). lifecycle_line x) e ∙ sym b.3,
+    )
+one_answer questions.Locks r y z o u a b =
+    let e = one_lock_answer (all_of r) a.0 b.0 a.1 b.1 in (
+      a.2 ∙ ap (λ (x : LockAnswer). lock_answer_yes x) e ∙ sym b.2,
+      a.3 ∙ ap (λ (x : LockAnswer). lock_answer_line x) e ∙ sym b.3,
     )
 one_answer questions.Report r y z o u a b = (a.0 ∙ sym b.0, a.1 ∙ sym b.1)
 

@@ -63,6 +63,9 @@ use Rattle.tk_query_lifecycle.specs.declared.lifecycle_rules.Lifecycle.{Lifecycl
 use Rattle.tk_query_lifecycle.specs.declared.lifecycle_rules.Lifecycle.TheVariants as lifecycles
 use Rattle.tk_query_lifecycle.specs.Lifecycle.{IsLifecycle}
 use Rattle.tk_query_lifecycle.specs.LifecycleTexts.{lifecycle_text}
+use Rattle.tk_query_locks.specs.AnswerTexts.{lock_answer_text, lock_answer_yes}
+use Rattle.tk_query_locks.specs.LockAnswers.{IsLockAnswer}
+use Rattle.tk_query_locks.specs.declared.answers.LockAnswer.{LockAnswer}
 use Rattle.tk_report_text.specs.Reports.{report_of_record}
 use Rattle.testkit_questions.specs.declared.questions.Question.{Question}
 use Rattle.testkit_questions.specs.declared.questions.Question.TheVariants.{
@@ -73,6 +76,7 @@ use Rattle.testkit_questions.specs.declared.questions.Question.TheVariants.{
   Exclusive as OfHolders,
   Executions,
   Lifecycle as OfLifecycle,
+  Locks as OfLocks,
   Report,
 }
 
@@ -124,6 +128,9 @@ events_where selection conditions r =
 abbrev pub lifecycle_line : Lifecycle → List ℕ
 lifecycle_line lifecycle = lifecycle_text lifecycle ++ line_feed ∷ []
 
+abbrev pub lock_answer_line : LockAnswer → List ℕ
+lock_answer_line answer = lock_answer_text answer ++ line_feed ∷ []
+
 abbrev pub lifecycle_yes : Lifecycle → Bool
 lifecycle_yes lifecycles.Kept = true
 lifecycle_yes _ = false
@@ -139,6 +146,12 @@ abbrev pub IsExecutionsAnswer : Selected → Bool → List ℕ → Type 0
 IsExecutionsAnswer asked is_yes output =
     (xs : List Execution) × AreExecutions (step_at asked) xs
     × (is_yes ≡ true) × (output ≡ flat_map execution_line xs)
+
+-- whether executions that conflict over a lock kept away from each other
+abbrev pub IsLocksAnswer : Recorded → Bool → List ℕ → Type 0
+IsLocksAnswer r is_yes output =
+    (answer : LockAnswer) × IsLockAnswer (all_of r) answer
+    × (is_yes ≡ lock_answer_yes answer) × (output ≡ lock_answer_line answer)
 
 -- whether the record keeps the lifecycle
 abbrev pub IsLifecycleAnswer : Recorded → Bool → List ℕ → Type 0
@@ -165,4 +178,5 @@ IsAnswerTo (OfHolders writers readers) r is_yes output =
 IsAnswerTo (Executions selection) r is_yes output =
     IsExecutionsAnswer (picked selection r) is_yes output
 IsAnswerTo OfLifecycle r is_yes output = IsLifecycleAnswer r is_yes output
+IsAnswerTo OfLocks r is_yes output = IsLocksAnswer r is_yes output
 IsAnswerTo Report r is_yes output = (is_yes ≡ true) × (output ≡ report_of_record r)

@@ -6,6 +6,7 @@ use Rattle.tk_query_conditions.specs.declared.conditions.Condition.{Condition}
 use Rattle.tk_explanations.specs.Collisions.{ExplainsExclusive}
 use Rattle.tk_explanations.specs.Lifecycles.{ExplainsLifecycle}
 use Rattle.tk_explanations.specs.Lists.{ExplainsExecutions, ExplainsList}
+use Rattle.tk_explanations.specs.LockCollisions.{ExplainsLocks}
 use Rattle.tk_explanations.specs.Matches.{ExplainsExactly, ExplainsInOrder, ExplainsLoosely}
 use Rattle.tk_explanations.specs.Statistics.{ExplainsStatistics}
 use Rattle.testkit_questions.specs.declared.questions.Mode.{Mode}
@@ -18,6 +19,7 @@ use Rattle.testkit_questions.specs.declared.questions.Question.TheVariants.{
   Exclusive,
   Executions,
   Lifecycle,
+  Locks,
 }
 use Rattle.testkit_questions.specs.declared.questions.Request.{Request}
 use Rattle.testkit_questions.specs.Answers.{IsAnswerTo, events_where, picked}
@@ -39,6 +41,7 @@ Explains (Listed selection conditions) r =
 Explains (Exclusive writers readers) r = ExplainsExclusive (all_of r) writers readers
 Explains (Executions selection) r = ExplainsExecutions (picked selection r)
 Explains Lifecycle r = ExplainsLifecycle r
+Explains Locks r = ExplainsLocks (all_of r)
 Explains question r = IsAnswerTo question r
 
 -- an answer about a record, with its explanation or without

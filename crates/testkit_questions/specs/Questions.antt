@@ -66,6 +66,7 @@ question_word names.List = codes "list"
 question_word names.Exclusive = codes "exclusive"
 question_word names.Executions = codes "executions"
 question_word names.Lifecycle = codes "lifecycle"
+question_word names.Locks = codes "locks"
 question_word names.Report = codes "report"
 
 abbrev pub mode_name : Mode → List ℕ
@@ -235,6 +236,7 @@ IsReadAfter names.Executions first words reading =
     (λ selection rest. IsEnd (questions.Executions selection) (first + 1) rest reading)
     (IsEnd (questions.Executions All) first words reading)
 IsReadAfter names.Lifecycle first words reading = IsEnd questions.Lifecycle first words reading
+IsReadAfter names.Locks first words reading = IsEnd questions.Locks first words reading
 IsReadAfter names.Report first words reading = IsEnd questions.Report first words reading
 
 -- what the words are read as, the first of which names a question

@@ -51,8 +51,11 @@ fn expect_word(expected: Expected, word: &str) -> Option<Expected>
     with_expectation(expected, selection, number)
 }
 
-/// Reads the expectations of the words, or answers the number of the first word that has none.
-pub(crate) fn read_expectations(words: &[String]) -> Result<Expected, usize>
+/// Reads the expectations of the words.
+///
+/// # Errors
+/// The number of the first word that expects nothing, or expects a number of a statistic again.
+pub fn read_expectations(words: &[String]) -> Result<Expected, usize>
     ensures ok { IfOk result (λ expected.
         Expecting nothing_expected (map string_bytes words.now) expected) }
     ensures err { IfErr result (λ at. IsBadExpectation (map string_bytes words.now) at) }

@@ -9,7 +9,7 @@ use crate::questions::{Mode, Question};
 use std::alloc::Global;
 use tk_explanations::{
     ExplainFault, explain_exactly, explain_exclusive, explain_executions, explain_in_order,
-    explain_lifecycle, explain_list, explain_loosely, explain_statistics,
+    explain_lifecycle, explain_list, explain_locks, explain_loosely, explain_statistics,
 };
 use tk_query_conditions::Condition;
 use tk_record::{Events, Record};
@@ -39,7 +39,11 @@ pub(crate) fn write_answer<T: Target>(
     }
 }
 
-fn explain_match<T: Target>(
+/// Writes what a mode's matcher answers of the events, and below it why.
+///
+/// # Errors
+/// `Memory` where a request for memory is refused, and `Device` where the target broke.
+pub fn explain_match<T: Target>(
     alloc: Global,
     events: &Events<'_>,
     mode: Mode,
@@ -106,6 +110,10 @@ pub(crate) fn explain<T: Target>(
             explain_executions(alloc, events, target)
         }
         Question::Lifecycle => explain_lifecycle(alloc, record, target),
+        Question::Locks => {
+            let events = Events::all(alloc, record)?;
+            explain_locks(alloc, &events, target)
+        }
         Question::Count { .. } | Question::Report => {
             write_answer(alloc, record, question, target)
         }

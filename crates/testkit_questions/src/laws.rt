@@ -3,7 +3,7 @@ ghost use Rattle.testkit_questions.specs.Laws.{AnswerIsUnique};
 
 use tk_explanations::laws::{
     exactly_is_unique, exclusive_is_unique, executions_is_unique, in_order_is_unique,
-    lifecycle_is_unique, list_is_unique, loosely_is_unique, statistics_is_unique,
+    lifecycle_is_unique, list_is_unique, locks_is_unique, loosely_is_unique, statistics_is_unique,
 };
 
 /// The same words about the same input have one outcome.
@@ -17,5 +17,6 @@ pub fn answer_is_unique()
     executions_is_unique();
     exclusive_is_unique();
     lifecycle_is_unique();
+    locks_is_unique();
     statistics_is_unique();
 }

@@ -16,6 +16,8 @@ mod replies;
 
 pub use asking::ask;
 pub use conditions::{ConditionsFault, read_conditions};
+pub use expectations::read_expectations;
+pub use explanations::explain_match;
 pub use fault_texts::AskFaultText;
 pub use faults::AskFault;
 pub use questions::{Mode, Question, QuestionName, Request};

@@ -21,6 +21,8 @@ pub enum QuestionName {
     Executions,
     /// `lifecycle`
     Lifecycle,
+    /// `locks`
+    Locks,
     /// `report`
     Report,
 }
@@ -71,6 +73,8 @@ pub enum Question {
     },
     /// Whether the record keeps the lifecycle that a listener of an engine may rely on.
     Lifecycle,
+    /// Whether executions that conflict over a lock kept away from each other.
+    Locks,
     /// The report: the statistics, and the events of each id.
     Report,
 }
@@ -98,6 +102,7 @@ impl QuestionName {
             "exclusive" => Some(QuestionName::Exclusive),
             "executions" => Some(QuestionName::Executions),
             "lifecycle" => Some(QuestionName::Lifecycle),
+            "locks" => Some(QuestionName::Locks),
             "report" => Some(QuestionName::Report),
             _ => None,
         }

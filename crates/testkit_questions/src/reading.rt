@@ -237,6 +237,7 @@ fn read_after(
         QuestionName::Exclusive => read_exclusive(alloc, words, first),
         QuestionName::Executions => read_executions(words, first),
         QuestionName::Lifecycle => read_end(Question::Lifecycle, words, first),
+        QuestionName::Locks => read_end(Question::Locks, words, first),
         QuestionName::Report => read_end(Question::Report, words, first),
     }
 }

@@ -1,1 +1,3 @@
 pub mod Emissions
+mod LentSinks
+mod LockedTables

@@ -6,7 +6,11 @@
 #![tactic(auto)]
 
 mod calls;
+mod emitters;
 mod events;
+mod unit_engines;
 
 pub use calls::{emit, finish, publish_file, register, report, skip, start};
+pub use emitters::{Emitter, UnitContext};
 pub use events::{file_published, finished, reported, skipped, started};
+pub use unit_engines::{UnitEngine, UnitTable, Units};

@@ -3,11 +3,13 @@ ghost use Rattle.std.specs.Prelude.{◌≡◌, IfOk};
 ghost use Rattle.tk_record.specs.declared.selections.Selection.TheVariants.{Tests, Containers};
 ghost use Rattle.tk_record.specs.Selections.{all_of, filtered_by, selects};
 ghost use Rattle.tk_query_lifecycle.specs.Lifecycle.{IsLifecycle};
+ghost use Rattle.tk_query_locks.specs.LockAnswers.{IsLockAnswer};
 ghost use Rattle.tk_engine_execute.specs.Results.{RunResults};
 
 use std::alloc::{AllocError, Global};
 use std::marker::Model;
 use tk_query_lifecycle::{Lifecycle, lifecycle};
+use tk_query_locks::{LockAnswer, locks};
 use tk_queue_session::Closed;
 use tk_record::{Events, Record, Selection};
 
@@ -96,5 +98,17 @@ impl Results {
         ensures { IfOk result (IsLifecycle self.now.recorded) }
     {
         lifecycle(alloc, &self.record)
+    }
+
+    /// Says whether executions that conflict over a lock kept away from each other, and which first
+    /// didn't. The table of the engine declares the locks.
+    ///
+    /// # Errors
+    /// `AllocError` where a request for memory is refused.
+    pub fn locks(&self, alloc: Global) -> Result<LockAnswer, AllocError>
+        ensures { IfOk result (IsLockAnswer (all_of self.now.recorded)) }
+    {
+        let events = self.all_events(alloc)?;
+        locks(alloc, &events)
     }
 }

@@ -1,28 +1,27 @@
 -- What a reporter's calls promise.
-use Rattle.std.proofs.Common.{◌≡◌, ◌≤◌, inr, ℕ, sym, ap, ◌∙◌, subst}
-use Rattle.std.specs.Prelude.{Result, Ok, Err, IfErr, OnErr, OnOk, Option}
+use Rattle.std.proofs.Common.{◌≡◌, ◌≤◌, inr, ℕ, List, sym, ap}
+use Rattle.std.proofs.Common.{◌∙◌, subst}
+use Rattle.std.specs.Prelude.{Result, OnOk, Option}
+use Rattle.tk_ids.specs.IdText.{SegmentView}
+use Rattle.tk_ids.specs.declared.descriptors.DType.TheVariants.{Test}
 use Rattle.tk_events.specs.declared.kinds.Kind.TheVariants.{Finished, Skipped, Started}
 use Rattle.tk_events.specs.declared.payloads.Payload.{Payload}
-use Rattle.tk_events.specs.declared.payloads.Payload.TheVariants.{Nothing}
+use Rattle.tk_events.specs.declared.payloads.Payload.TheVariants.{Nothing, Reason}
 use Rattle.tk_queue_session.specs.Registering.{RegisterRequest}
 use Rattle.tk_queue_session.specs.Senders.{sends}
 use Rattle.tk_engine_execute.specs.Engines.{Extends}
 use Rattle.tk_engine_execute.specs.declared.engines.UnitFault.{UnitFault}
 use Rattle.tk_engine_unit_events.specs.Endings.{payload_of}
-use Rattle.tk_engine_unit_events.specs.UnitSteps.{BodyRuns, ChildView, HasFinished, HasSkipped}
-use Rattle.tk_engine_unit_events.specs.UnitSteps.{HasStarted, UnitView, child_request, event}
+use Rattle.tk_engine_unit_events.specs.Refusals.{IsChildCause, child_start}
+use Rattle.tk_engine_unit_events.specs.Standing.{BegunUnit}
+use Rattle.tk_engine_unit_events.specs.UnitSteps.{BodyRuns, ChildView, HasFinished}
+use Rattle.tk_engine_unit_events.specs.UnitSteps.{HasSkipped, HasStarted, UnitView, child}
+use Rattle.tk_engine_unit_events.specs.UnitSteps.{child_request, event}
 use Rattle.tk_engine_hierarchical.specs.Causes.{first_cause}
 use Rattle.tk_engine_hierarchical.specs.Reporting.{EndsChild, HasBegunChild, HasBegunDynamic}
 use Rattle.tk_engine_hierarchical.specs.Reporting.{HasFailedDynamic, HasRunChild}
 use Rattle.tk_engine_unit_events.specs.declared.outcomes.Outcome.{Outcome}
 use Rattle.tk_engine_unit_events.proofs.UnitSteps.{on_ok}
-
-pub skipped_at : (old new : UnitView) (ask : ℕ → RegisterRequest) (given stamp : ℕ)
-    (reason : Payload) → given ≡ stamp
-    → (key : ℕ) × HasSkipped old new (ask given) (event Skipped key given reason) → (key : ℕ)
-    × HasSkipped old new (ask stamp) (event Skipped key stamp reason)
-skipped_at old new ask given stamp reason same s = subst
-    (λ n. (key : ℕ) × HasSkipped old new (ask n) (event Skipped key n reason)) same s
 
 pub has_run_child : (may_run : BodyRuns) (old started before new : UnitView)
     (ask : ℕ → RegisterRequest) (key given stamp : ℕ) (outcome : Outcome) → given ≡ stamp
@@ -55,13 +54,6 @@ has_begun_child old started new ask key given stamp same s x =
           (event Started key (ask n).stamp Nothing)) same s;
       later = x;
     }
-
--- where a result is an error, what holds of it and what holds of each error hold together
-pub both_err : {R F A : Type 0} (P Q : F → Type 0) (r : Result R F) → OnErr r A → IfErr r P
-    → ((why : F) → A → P why → Q why)
-    → IfErr r Q
-both_err P Q (Ok _) a p f = tt
-both_err P Q (Err why) a p f = f why a p
 
 -- a child began
 pub begun : (old started new : UnitView) (c : ChildView) (above key given : ℕ)
@@ -115,3 +107,36 @@ ends_child statics may_end old new key outcome dynamic its f = record {
   took = f.took ∙ ap (λ n. sends old.sink (event Finished key n (payload_of outcome)))
       (sym f.stamp);
 }
+
+-- a skip with a segment and a reason that were copied
+pub named_skip : (old new : UnitView) (s t : SegmentView) (name : List ℕ) (given stamp : ℕ)
+    (copied reason : List ℕ) → s ≡ t → given ≡ stamp → copied ≡ reason
+    → (above : ℕ) × (key : ℕ) × HasSkipped old new (child_request (child Test s name) above given)
+    (event Skipped key given (Reason copied))
+    → (above : ℕ) × (key : ℕ) × HasSkipped old new (child_request (child Test t name) above stamp)
+    (event Skipped key stamp (Reason reason))
+named_skip old new s t name given stamp copied reason a b c skip =
+    subst (λ r. (above : ℕ) × (key : ℕ)
+    × HasSkipped old new (child_request (child Test t name) above stamp)
+    (event Skipped key stamp (Reason r))) c
+    (subst (λ n. (above : ℕ) × (key : ℕ)
+    × HasSkipped old new (child_request (child Test t name) above n)
+    (event Skipped key n (Reason copied))) b
+    (subst (λ x. (above : ℕ) × (key : ℕ)
+    × HasSkipped old new (child_request (child Test x name) above given)
+    (event Skipped key given (Reason copied))) a skip))
+
+pub named_skip_cause : (unit : BegunUnit) (u : UnitView) (s t : SegmentView) (name : List ℕ)
+    (given stamp : ℕ) (copied reason : List ℕ) (why : UnitFault)
+    → s ≡ t → given ≡ stamp → copied ≡ reason
+    → IsChildCause unit u (child_start (child Test s name) given
+    (λ key. event Skipped key given (Reason copied))) why
+    → IsChildCause unit u (child_start (child Test t name) stamp
+    (λ key. event Skipped key stamp (Reason reason))) why
+named_skip_cause unit u s t name given stamp copied reason why a b c cause =
+    subst (λ r. IsChildCause unit u (child_start (child Test t name) stamp
+    (λ key. event Skipped key stamp (Reason r))) why) c
+    (subst (λ n. IsChildCause unit u (child_start (child Test t name) n
+    (λ key. event Skipped key n (Reason copied))) why) b
+    (subst (λ x. IsChildCause unit u (child_start (child Test x name) given
+    (λ key. event Skipped key given (Reason copied))) why) a cause))

@@ -1,11 +1,18 @@
 -- What a reporter emits.
-use Rattle.std.specs.Prelude.{◌≡◌, ◌⊎◌, ℕ, ◌≤◌, Option}
-use Rattle.tk_events.specs.declared.kinds.Kind.TheVariants.{Finished, Started}
-use Rattle.tk_events.specs.declared.payloads.Payload.TheVariants.{Nothing}
+use Rattle.std.specs.Prelude.{◌≡◌, ◌⊎◌, ℕ, ◌≤◌, List, [], Option}
+use Rattle.std.specs.Borrow.{Bor}
+use Rattle.tk_ids.specs.IdText.{SegmentView}
+use Rattle.tk_ids.specs.declared.descriptors.DType.{DType}
+use Rattle.tk_ids.specs.declared.id_faults.IdFault.TheVariants.{Empty}
+use Rattle.tk_events.specs.declared.events.Event.{Event}
+use Rattle.tk_events.specs.declared.kinds.Kind.TheVariants.{File, Finished, Reporting}
+use Rattle.tk_events.specs.declared.kinds.Kind.TheVariants.{Skipped, Started}
+use Rattle.tk_events.specs.declared.payloads.Payload.TheVariants.{Nothing, Path, Reason, Report}
 use Rattle.tk_queue_session.specs.Registering.{RegisterRequest}
 use Rattle.tk_queue_session.specs.Senders.{SenderView, sends}
-use Rattle.tk_engine_execute.specs.Engines.{Extends}
+use Rattle.tk_engine_execute.specs.Engines.{Extends, fault_of_id}
 use Rattle.tk_engine_execute.specs.declared.engines.UnitFault.{UnitFault}
+use Rattle.tk_engine_execute.specs.declared.engines.UnitFault.TheVariants.{Memory}
 use Rattle.tk_engine_unit_events.specs.Endings.{payload_of}
 use Rattle.tk_engine_unit_events.specs.UnitSteps.{
   BodyRuns,
@@ -14,8 +21,10 @@ use Rattle.tk_engine_unit_events.specs.UnitSteps.{
   HasFinished,
   HasStarted,
 }
-use Rattle.tk_engine_unit_events.specs.UnitSteps.{UnitView, child_request, event}
-use Rattle.tk_engine_unit_events.specs.Refusals.{ChildStart, child_start}
+use Rattle.tk_engine_unit_events.specs.UnitSteps.{UnitView, child, child_request, event}
+use Rattle.tk_engine_unit_events.specs.Refusals.{ChildStart, IsChildCause, IsPublishCause}
+use Rattle.tk_engine_unit_events.specs.Refusals.{child_start}
+use Rattle.tk_engine_unit_events.specs.Standing.{BegunUnit}
 use Rattle.tk_engine_unit_events.specs.declared.outcomes.Outcome.{Outcome}
 use Rattle.tk_engine_hierarchical.specs.Causes.{first_cause}
 
@@ -61,6 +70,39 @@ abbrev pub HasFailedDynamic :
 HasFailedDynamic old new c kept now why =
     (Grew old new × (now ≡ kept))
     ⊎ (HasBegunDynamic old new c × (now ≡ first_cause kept why))
+
+-- the segment of this tag and this value
+abbrev pub segment_view : Bor (List ℕ) × Bor (List ℕ) → SegmentView
+segment_view segment = record { tag = segment.0.now; value = segment.1.now }
+
+-- what is registered with a segment of this tag and this value
+abbrev pub named_child : DType → Bor (List ℕ) × Bor (List ℕ) → List ℕ → ChildView
+named_child dtype segment name = child dtype (segment_view segment) name
+
+-- a segment's tag or value is empty, or a request for memory was refused
+abbrev pub IsSegmentCause : SegmentView → UnitFault → Type 0
+IsSegmentCause s why =
+    (((s.tag ≡ []) ⊎ (s.value ≡ [])) × (why ≡ fault_of_id Empty)) ⊎ (why ≡ Memory)
+
+-- why a body has no child: its segment can't be made, or the unit refuses it
+abbrev pub IsDynamicCause : BegunUnit → UnitView → ChildStart → UnitFault → Type 0
+IsDynamicCause unit u c why = IsSegmentCause c.child.segment why ⊎ IsChildCause unit u c why
+
+-- a request for memory for the texts was refused, or the unit refused the event
+abbrev pub IsTextCause : UnitView → (ℕ → Event) → UnitFault → Type 0
+IsTextCause u event why = (why ≡ Memory) ⊎ IsPublishCause u event why
+
+-- the entry of these pairs that a key publishes
+abbrev pub entry_at : UnitView → List (List ℕ × List ℕ) → ℕ → Event
+entry_at u pairs key = event Reporting key u.stamp (Report pairs)
+
+-- the file of this path that a key publishes
+abbrev pub file_at : UnitView → List ℕ → ℕ → Event
+file_at u path key = event File key u.stamp (Path path)
+
+-- the skip of a key for this reason
+abbrev pub skip_at : UnitView → List ℕ → ℕ → Event
+skip_at u reason key = event Skipped key u.stamp (Reason reason)
 
 -- The last that the sink took is the finish of a dynamic descriptor, whose key is past those of the
 -- static ones, with an outcome that its body may have.

@@ -2,6 +2,7 @@
 #![tactic(auto)]
 
 mod causes;
+mod contexts;
 mod engines;
 mod hierarchical;
 pub mod laws;
@@ -10,6 +11,7 @@ mod reporters;
 mod runs;
 mod tests;
 
+pub use contexts::Context;
 pub use engines::Hierarchical;
 pub use reporters::Reporter;
 pub use runs::run_tests;

@@ -9,6 +9,7 @@ ghost use Rattle.tk_engine_unit_events.specs.Endings.{IsStaticTest, payload_of};
 ghost use Rattle.tk_engine_unit_events.specs.UnitSteps.{HasFinished, event};
 ghost use Rattle.tk_engine_hierarchical.specs.TreeRuns.{FinishesNode, RunsBody, SkipsNode, StartsNode, after_each, after_next, after_publishing, child_of_node, plan_state, stamp_after};
 
+use crate::contexts::{Context, InUnit};
 use crate::reporters::Reporter;
 use crate::tests::{Tests, payload_of};
 use std::alloc::Global;
@@ -25,6 +26,23 @@ use tk_plan::{Node, NumberedNode};
 pub(crate) struct TestEnd {
     pub(crate) outcome: Outcome,
     pub(crate) stamp: Option<u64>,
+}
+
+// Runs the test with this key, leaves in `ended` how it ended, and gives the events back.
+fn run_test<'a, C: Context, T: Tests>(
+    tests: &T,
+    key: u32,
+    mut test: Reporter<'_, 'a, C>,
+    ended: &mut Result<Outcome, UnitFault>,
+) -> UnitEvents<'a, C::Sink, C::Run>
+    ensures end { IfOk ended.new (λ outcome. T.may_end tests.now key outcome) }
+    ensures run { IfOk ended.new (λ outcome.
+        T.may_run tests.now key test.entry.events result outcome) }
+{
+    let answer = tests.run(key, &mut test);
+    let (events, how) = test.end(answer);
+    *ended = how;
+    events
 }
 
 // A static test of this key, as a body.
@@ -46,11 +64,8 @@ impl<'t, T: Tests> UnitBody for TestBody<'t, T> {
         events: UnitEvents<'a, S, K>,
         ended: &mut Result<Outcome, UnitFault>,
     ) -> UnitEvents<'a, S, K> {
-        let mut reporter = Reporter::new(events);
-        let answer = self.tests.run(rt, alloc, self.key, &mut reporter);
-        let (events, how) = reporter.end(answer);
-        *ended = how;
-        events
+        let test = Reporter::new(rt, alloc, events);
+        run_test::<InUnit<R, S, K>, T>(self.tests, self.key, test, ended)
     }
 }
 

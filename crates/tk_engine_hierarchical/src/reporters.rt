@@ -1,36 +1,55 @@
 //! What a test publishes while it runs.
-ghost use Rattle.std.specs.Prelude.{◌≡◌, ◌⊎◌, ◌≤◌, ℕ, Err, IfErr, IfOk, None, Ok, OnErr, OnOk, Some, length};
+ghost use Rattle.std.specs.Prelude.{◌≡◌, ◌⊎◌, ◌≤◌, ◌∷◌, [], ℕ, Err, IfErr, IfOk, None, Ok, OnErr, OnOk, Some, length};
 ghost use Rattle.tk_ids.specs.declared.descriptors.Descriptor.{Descriptor as DescriptorView};
 ghost use Rattle.tk_ids.specs.declared.descriptors.DType.TheVariants.{Container, Test};
 ghost use Rattle.tk_events.specs.declared.kinds.Kind.TheVariants as kinds;
-ghost use Rattle.tk_events.specs.declared.payloads.Payload.TheVariants as payloads;
 ghost use Rattle.tk_engine_execute.specs.Engines.{Extends, IsSameSender};
 ghost use Rattle.tk_engine_execute.specs.declared.engines.UnitFault.{UnitFault};
+ghost use Rattle.tk_engine_execute.specs.declared.engines.UnitFault.TheVariants.{Own};
 ghost use Rattle.tk_engine_unit_events.specs.Endings.{payload_of};
 ghost use Rattle.tk_engine_hierarchical.specs.Causes.{first_cause};
-ghost use Rattle.tk_engine_hierarchical.specs.Reporting.{EndsChild, HasBegunDynamic, HasFailedDynamic, HasRunDynamic, dynamic_start};
+ghost use Rattle.tk_engine_hierarchical.specs.Reporting.{EndsChild, HasBegunDynamic, HasFailedDynamic, HasRunDynamic, IsDynamicCause, IsSegmentCause, IsTextCause, dynamic_start, entry_at, file_at, named_child, segment_view, skip_at};
 ghost use Rattle.tk_engine_unit_events.specs.Refusals.{IsChildCause, IsPublishCause, child_start};
 ghost use Rattle.tk_engine_unit_events.specs.Taken.{IsFaultOfTaken, IsTaken};
-ghost use Rattle.tk_engine_unit_events.specs.UnitSteps.{Grew, HasFinished, HasSkipped, IsInnermost, Published, child, child_request, event};
+ghost use Rattle.tk_engine_unit_events.specs.UnitSteps.{Grew, HasFinished, HasSkipped, IsInnermost, Published, child_request, event};
 
 use crate::causes::{cause_of, ending};
+use crate::contexts::{Context, InUnit};
 use crate::tests::{Body, payload_of};
 use std::alloc::Global;
 use std::sync::Wait;
-use tk_engine_execute::{Sink, UnitFault};
+use tk_engine_execute::{OUT_OF_ORDER, Sink, UnitFault};
 use tk_engine_unit_events::{Child, Outcome, UnitBody, UnitEvents, UnitRun};
 use tk_events::{Kind, Pairs, Payload};
 use tk_ids::{DType, Descriptor, Segment, Text};
 
-/// Publishes what belongs to the test or container that runs.
+/// The test or container that runs: what it publishes, and what it runs below it.
 ///
 /// It emits each event at once, only for what runs, and finishes what it starts if no call fails.
 /// Where a child that had begun left a fault, and the body drops it and answers an outcome, the unit
 /// still stops, with the cause of the first such fault: what began can't be taken back.
 #[derive(Drop)]
-pub struct Reporter<'a, S: Sink, K: UnitRun> {
-    pub(crate) events: UnitEvents<'a, S, K>,
+pub struct Reporter<'r, 'a, C: Context> {
+    rt: &'r C::Runtime,
+    alloc: Global,
+    pub(crate) events: UnitEvents<'a, C::Sink, C::Run>,
     pub(crate) child_fault: Option<UnitFault>,
+}
+
+// Runs a body, leaves in `ended` how it ended, and gives the events back.
+fn run_body<'a, C: Context, B: Body>(
+    body: &B,
+    mut test: Reporter<'_, 'a, C>,
+    ended: &mut Result<Outcome, UnitFault>,
+) -> UnitEvents<'a, C::Sink, C::Run>
+    ensures end { IfOk ended.new (λ outcome. B.may_end body.now outcome) }
+    ensures run { IfOk ended.new (λ outcome.
+        B.may_run body.now test.entry.events result outcome) }
+{
+    let answer = body.run(&mut test);
+    let (events, how) = test.end(answer);
+    *ended = how;
+    events
 }
 
 // A body that publishes through a reporter.
@@ -51,21 +70,32 @@ impl<'b, B: Body> UnitBody for ReportingBody<'b, B> {
         events: UnitEvents<'a, S, K>,
         ended: &mut Result<Outcome, UnitFault>,
     ) -> UnitEvents<'a, S, K> {
-        let mut reporter = Reporter::new(events);
-        let answer = self.body.run(rt, alloc, &mut reporter);
-        let (events, how) = reporter.end(answer);
-        *ended = how;
-        events
+        let test = Reporter::new(rt, alloc, events);
+        run_body::<InUnit<R, S, K>, B>(self.body, test, ended)
     }
 }
 
-impl<'a, S: Sink, K: UnitRun> Reporter<'a, S, K> {
+// The segment of this tag and this value.
+fn segment_of(alloc: Global, segment: (&str, &str)) -> Result<Segment, UnitFault>
+    ensures ok { IfOk result (λ s. s ≡ segment_view segment.entry) }
+    ensures cause { IfErr result (IsSegmentCause (segment_view segment.entry)) }
+{
+    Ok(Segment::new(alloc, segment.0, segment.1)?)
+}
+
+impl<'r, 'a, C: Context> Reporter<'r, 'a, C> {
     /// Publishes into these events.
-    pub(crate) fn new(events: UnitEvents<'a, S, K>) -> Reporter<'a, S, K>
+    pub(crate) fn new(
+        rt: &'r C::Runtime,
+        alloc: Global,
+        events: UnitEvents<'a, C::Sink, C::Run>,
+    ) -> Reporter<'r, 'a, C>
         ensures events { result.events ≡ events.entry }
         ensures unbroken { result.child_fault ≡ None }
     {
         Reporter {
+            rt,
+            alloc,
             events,
             child_fault: None,
         }
@@ -75,7 +105,7 @@ impl<'a, S: Sink, K: UnitRun> Reporter<'a, S, K> {
     pub(crate) fn end(
         self,
         answer: Result<Outcome, UnitFault>,
-    ) -> (UnitEvents<'a, S, K>, Result<Outcome, UnitFault>)
+    ) -> (UnitEvents<'a, C::Sink, C::Run>, Result<Outcome, UnitFault>)
         ensures events { result.0 ≡ self.entry.events }
         ensures ok { IfOk result.1 (λ outcome. answer ≡ Ok outcome) }
         ensures unbroken { OnOk result.1 (self.entry.child_fault ≡ None) }
@@ -87,6 +117,7 @@ impl<'a, S: Sink, K: UnitRun> Reporter<'a, S, K> {
         let Reporter {
             events,
             child_fault,
+            ..
         } = self;
         (events, ending(answer, child_fault))
     }
@@ -116,53 +147,95 @@ impl<'a, S: Sink, K: UnitRun> Reporter<'a, S, K> {
     }
 
     /// Finishes a dynamic key, which has to be the innermost running one.
-    pub(crate) fn finish<R: Wait>(
-        &mut self,
-        rt: &R,
-        key: u32,
-        outcome: Outcome,
-    ) -> Result<(), UnitFault>
-        requires { length K.unit.frame.table ≤ key }
+    pub(crate) fn finish(&mut self, key: u32, outcome: Outcome) -> Result<(), UnitFault>
+        requires { length C.Run.unit.frame.table ≤ key }
         ensures ok { OnOk result (HasFinished self.old.events self.new.events
             (event kinds.Finished key self.old.events.stamp (payload_of outcome))) }
         ensures err { OnErr result (self.new.events ≡ self.old.events) }
         ensures kept { self.new.child_fault ≡ self.old.child_fault }
     {
         let stamp = self.events.stamp();
-        self.events.finish(rt, key, stamp, payload_of(outcome))
+        self.events.finish(self.rt, key, stamp, payload_of(outcome))
     }
 
     // Registers and starts a child, runs its body, and finishes it.
-    fn run_child<R: Wait, B: Body>(
-        &mut self,
-        rt: &R,
-        alloc: Global,
-        child: &Child<'_>,
-        body: &B,
-    ) -> Result<(), UnitFault>
+    fn run_child<B: Body>(&mut self, child: &Child<'_>, body: &B) -> Result<(), UnitFault>
         ensures ok { OnOk result
-            (EndsChild (length K.unit.frame.table) (B.may_end body.now) self.new.events) }
+            (EndsChild (length C.Run.unit.frame.table) (B.may_end body.now) self.new.events) }
         ensures child { OnOk result (HasRunDynamic (B.may_run body.now)
             self.old.events self.new.events child.now) }
         ensures err { IfErr result (HasFailedDynamic self.old.events self.new.events child.now
             self.old.child_fault self.new.child_fault) }
         ensures kept { OnOk result (self.new.child_fault ≡ self.old.child_fault) }
         ensures running { OnOk result (self.new.events.running ≡ self.old.events.running) }
-        ensures free { OnOk result (¬ IsTaken K.unit self.old.events child.now.segment) }
-        ensures taken { IfErr result (λ why. IsTaken K.unit self.old.events child.now.segment
+        ensures free { OnOk result (¬ IsTaken C.Run.unit self.old.events child.now.segment) }
+        ensures taken { IfErr result (λ why. IsTaken C.Run.unit self.old.events child.now.segment
             → IsFaultOfTaken why × (self.new.events ≡ self.old.events)) }
         ensures cause { IfErr result (λ why.
-            IsChildCause K.unit self.old.events
+            IsChildCause C.Run.unit self.old.events
             (dynamic_start child.now self.old.events.stamp) why
             ⊎ HasBegunDynamic self.old.events self.new.events child.now) }
     {
+        let (rt, alloc) = (self.rt, self.alloc);
         let stamp = self.events.stamp();
         let key = self.events.start_child(rt, alloc, child, stamp, stamp)?;
         let body = ReportingBody { body };
         let ended = self.events.run_body(rt, alloc, &body);
         let outcome = self.note(ended)?;
-        let finished = self.finish(rt, key, outcome);
+        let finished = self.finish(key, outcome);
         self.note(finished)
+    }
+
+    // Registers and starts a child with a segment of this tag and this value, runs its body, and
+    // finishes it.
+    fn run_dynamic<B: Body>(
+        &mut self,
+        dtype: DType,
+        segment: (&str, &str),
+        name: &str,
+        body: &B,
+    ) -> Result<(), UnitFault>
+        ensures ok { OnOk result
+            (EndsChild (length C.Run.unit.frame.table) (B.may_end body.now) self.new.events) }
+        ensures child { OnOk result (HasRunDynamic (B.may_run body.now)
+            self.old.events self.new.events (named_child dtype segment.entry name.now)) }
+        ensures err { IfErr result (HasFailedDynamic self.old.events self.new.events
+            (named_child dtype segment.entry name.now)
+            self.old.child_fault self.new.child_fault) }
+        ensures kept { OnOk result (self.new.child_fault ≡ self.old.child_fault) }
+        ensures running { OnOk result (self.new.events.running ≡ self.old.events.running) }
+        ensures free { OnOk result
+            (¬ IsTaken C.Run.unit self.old.events (segment_view segment.entry)) }
+        ensures taken { IfErr result (λ why.
+            IsTaken C.Run.unit self.old.events (segment_view segment.entry)
+            → IsFaultOfTaken why × (self.new.events ≡ self.old.events)) }
+        ensures cause { IfErr result (λ why.
+            IsDynamicCause C.Run.unit self.old.events (dynamic_start
+            (named_child dtype segment.entry name.now) self.old.events.stamp) why
+            ⊎ HasBegunDynamic self.old.events self.new.events
+            (named_child dtype segment.entry name.now)) }
+    {
+        let segment = segment_of(self.alloc, segment)?;
+        let child = Child {
+            segment: &segment,
+            name,
+            dtype,
+        };
+        self.run_child(&child, body)
+    }
+
+    /// The runtime, for what waits.
+    pub fn rt(&self) -> &'r C::Runtime
+        ensures { result ≡ self.now.rt }
+    {
+        self.rt
+    }
+
+    /// The allocator.
+    pub fn alloc(&self) -> Global
+        ensures { result ≡ self.now.alloc }
+    {
+        self.alloc
     }
 
     /// The static descriptor that runs: in [`Tests::run`](crate::Tests::run) that of the test, with
@@ -172,9 +245,10 @@ impl<'a, S: Sink, K: UnitRun> Reporter<'a, S, K> {
     /// `Own(OUT_OF_ORDER)` in the body of a dynamic test or container.
     pub fn descriptor(&self) -> Result<&Descriptor, UnitFault>
         ensures ok { IfOk result (λ d.
-            IsInnermost K.unit.frame.table self.now.events.running d.now) }
+            IsInnermost C.Run.unit.frame.table self.now.events.running d.now) }
         ensures err { OnErr result ((d : DescriptorView)
-            → ¬ IsInnermost K.unit.frame.table self.now.events.running d) }
+            → ¬ IsInnermost C.Run.unit.frame.table self.now.events.running d) }
+        ensures cause { IfErr result (λ why. why ≡ Own OUT_OF_ORDER) }
     {
         self.events.descriptor()
     }
@@ -191,89 +265,101 @@ impl<'a, S: Sink, K: UnitRun> Reporter<'a, S, K> {
         self.events.set_stamp(stamp);
     }
 
-    /// Publishes a report entry. The keys of the pairs have to increase strictly.
+    /// Publishes a report entry of one key and its value. JUnit: `reportingEntryPublished`.
     ///
-    /// JUnit: `reportingEntryPublished`.
+    /// # Errors
+    /// `Memory`, or the fault of the sink.
+    pub fn report(&mut self, key: &str, value: &str) -> Result<(), UnitFault>
+        ensures ok { OnOk result ((above : ℕ) × Published self.old.events self.new.events
+            (entry_at self.old.events ((key.now, value.now) ∷ []) above)) }
+        ensures err { OnErr result (self.new.events ≡ self.old.events) }
+        ensures cause { IfErr result (IsTextCause self.old.events
+            (entry_at self.old.events ((key.now, value.now) ∷ []))) }
+        ensures kept { self.new.child_fault ≡ self.old.child_fault }
+    {
+        let key = Text::copy(self.alloc, key)?;
+        let value = Text::copy(self.alloc, value)?;
+        let pairs = Pairs::shared_pair(self.alloc, key, value)?;
+        self.report_pairs(pairs)
+    }
+
+    /// Publishes a report entry of some pairs, whose keys have to increase strictly.
     ///
     /// # Errors
     /// The fault of the sink, such as `Unlawful` where the keys don't.
-    pub fn report<R: Wait>(&mut self, rt: &R, pairs: Pairs) -> Result<(), UnitFault>
-        ensures ok { OnOk result ((key : ℕ) × Published self.old.events self.new.events
-            (event kinds.Reporting key self.old.events.stamp (payloads.Report pairs))) }
+    pub fn report_pairs(&mut self, pairs: Pairs) -> Result<(), UnitFault>
+        ensures ok { OnOk result ((above : ℕ) × Published self.old.events self.new.events
+            (entry_at self.old.events pairs above)) }
         ensures err { OnErr result (self.new.events ≡ self.old.events) }
-        ensures cause { IfErr result (IsPublishCause self.old.events
-            (λ key. event kinds.Reporting key self.old.events.stamp (payloads.Report pairs))) }
+        ensures cause { IfErr result
+            (IsPublishCause self.old.events (entry_at self.old.events pairs)) }
         ensures kept { self.new.child_fault ≡ self.old.child_fault }
     {
-        let stamp = self.events.stamp();
-        self.events
-            .publish(rt, Kind::Reporting, stamp, Payload::Report(pairs))
+        let (stamp, pairs) = (self.events.stamp(), Payload::Report(pairs));
+        self.events.publish(self.rt, Kind::Reporting, stamp, pairs)
     }
 
-    /// Publishes a file, whose path isn't empty.
+    /// Publishes a file, whose path isn't empty. JUnit: `fileEntryPublished`.
     ///
     /// # Errors
-    /// The fault of the sink, such as `Unlawful` where the path is empty.
-    pub fn publish_file<R: Wait>(&mut self, rt: &R, path: Text) -> Result<(), UnitFault>
-        ensures ok { OnOk result ((key : ℕ) × Published self.old.events self.new.events
-            (event kinds.File key self.old.events.stamp (payloads.Path path))) }
+    /// `Memory`, or the fault of the sink, such as `Unlawful` where the path is empty.
+    pub fn file(&mut self, path: &str) -> Result<(), UnitFault>
+        ensures ok { OnOk result ((above : ℕ) × Published self.old.events self.new.events
+            (file_at self.old.events path.now above)) }
         ensures err { OnErr result (self.new.events ≡ self.old.events) }
-        ensures cause { IfErr result (IsPublishCause self.old.events
-            (λ key. event kinds.File key self.old.events.stamp (payloads.Path path))) }
+        ensures cause { IfErr result
+            (IsTextCause self.old.events (file_at self.old.events path.now)) }
         ensures kept { self.new.child_fault ≡ self.old.child_fault }
     {
+        let path = Payload::Path(Text::copy(self.alloc, path)?);
         let stamp = self.events.stamp();
-        self.events
-            .publish(rt, Kind::File, stamp, Payload::Path(path))
+        self.events.publish(self.rt, Kind::File, stamp, path)
     }
 
     /// Registers a dynamic test below the test or container that runs, starts it, runs its body,
-    /// and finishes it with the outcome.
+    /// and finishes it with the outcome. `segment` has the tag and the value of the last segment of
+    /// its id.
     ///
     /// JUnit: `dynamicTestRegistered` and what follows it.
     ///
     /// # Errors
     /// - `Own(TWICE)` where a static descriptor has the id, or one that the unit registered.
     ///   Nothing is emitted then.
-    /// - `Own(OUT_OF_ORDER)` where no key runs; `Memory`; `Sink` where the id is too long, or the
-    ///   sink refuses.
+    /// - `Own(OUT_OF_ORDER)` where no key runs; `Memory`; `Sink` where the tag or the value is
+    ///   empty, the id is too long, or the sink refuses.
     /// - The fault of the body.
     ///
     /// Once the child has begun, a fault ends the unit, also where the caller drops it.
-    pub fn dynamic_test<R: Wait, B: Body>(
+    pub fn dynamic_test<B: Body>(
         &mut self,
-        rt: &R,
-        alloc: Global,
-        segment: &Segment,
+        segment: (&str, &str),
         name: &str,
         body: &B,
     ) -> Result<(), UnitFault>
         ensures ok { OnOk result
-            (EndsChild (length K.unit.frame.table) (B.may_end body.now) self.new.events) }
+            (EndsChild (length C.Run.unit.frame.table) (B.may_end body.now) self.new.events) }
         ensures child { OnOk result (HasRunDynamic (B.may_run body.now)
-            self.old.events self.new.events (child Test segment.now name.now)) }
+            self.old.events self.new.events (named_child Test segment.entry name.now)) }
         ensures err { IfErr result (HasFailedDynamic self.old.events self.new.events
-            (child Test segment.now name.now) self.old.child_fault self.new.child_fault) }
+            (named_child Test segment.entry name.now)
+            self.old.child_fault self.new.child_fault) }
         ensures kept { OnOk result (self.new.child_fault ≡ self.old.child_fault) }
         ensures running { OnOk result (self.new.events.running ≡ self.old.events.running) }
-        ensures free { OnOk result (¬ IsTaken K.unit self.old.events segment.now) }
-        ensures taken { IfErr result (λ why. IsTaken K.unit self.old.events segment.now
+        ensures free { OnOk result
+            (¬ IsTaken C.Run.unit self.old.events (segment_view segment.entry)) }
+        ensures taken { IfErr result (λ why.
+            IsTaken C.Run.unit self.old.events (segment_view segment.entry)
             → IsFaultOfTaken why × (self.new.events ≡ self.old.events)) }
         ensures cause { IfErr result (λ why.
-            IsChildCause K.unit self.old.events
-            (dynamic_start (child Test segment.now name.now) self.old.events.stamp) why
+            IsDynamicCause C.Run.unit self.old.events (dynamic_start
+            (named_child Test segment.entry name.now) self.old.events.stamp) why
             ⊎ HasBegunDynamic self.old.events self.new.events
-            (child Test segment.now name.now)) }
+            (named_child Test segment.entry name.now)) }
         // Whatever the body does.
-        ensures same { IsSameSender K.unit.start self.new.events.sink }
-        ensures some { Extends K.unit.start self.new.events.sink }
+        ensures same { IsSameSender C.Run.unit.start self.new.events.sink }
+        ensures some { Extends C.Run.unit.start self.new.events.sink }
     {
-        let child = Child {
-            segment,
-            name,
-            dtype: DType::Test,
-        };
-        let ended = self.run_child(rt, alloc, &child, body);
+        let ended = self.run_dynamic(DType::Test, segment, name, body);
         self.events.shows_sink();
         ended
     }
@@ -285,40 +371,36 @@ impl<'a, S: Sink, K: UnitRun> Reporter<'a, S, K> {
     ///
     /// # Errors
     /// As [`Reporter::dynamic_test`].
-    pub fn dynamic_container<R: Wait, B: Body>(
+    pub fn dynamic_container<B: Body>(
         &mut self,
-        rt: &R,
-        alloc: Global,
-        segment: &Segment,
+        segment: (&str, &str),
         name: &str,
         body: &B,
     ) -> Result<(), UnitFault>
         ensures ok { OnOk result
-            (EndsChild (length K.unit.frame.table) (B.may_end body.now) self.new.events) }
+            (EndsChild (length C.Run.unit.frame.table) (B.may_end body.now) self.new.events) }
         ensures child { OnOk result (HasRunDynamic (B.may_run body.now)
-            self.old.events self.new.events (child Container segment.now name.now)) }
+            self.old.events self.new.events (named_child Container segment.entry name.now)) }
         ensures err { IfErr result (HasFailedDynamic self.old.events self.new.events
-            (child Container segment.now name.now) self.old.child_fault self.new.child_fault) }
+            (named_child Container segment.entry name.now)
+            self.old.child_fault self.new.child_fault) }
         ensures kept { OnOk result (self.new.child_fault ≡ self.old.child_fault) }
         ensures running { OnOk result (self.new.events.running ≡ self.old.events.running) }
-        ensures free { OnOk result (¬ IsTaken K.unit self.old.events segment.now) }
-        ensures taken { IfErr result (λ why. IsTaken K.unit self.old.events segment.now
+        ensures free { OnOk result
+            (¬ IsTaken C.Run.unit self.old.events (segment_view segment.entry)) }
+        ensures taken { IfErr result (λ why.
+            IsTaken C.Run.unit self.old.events (segment_view segment.entry)
             → IsFaultOfTaken why × (self.new.events ≡ self.old.events)) }
         ensures cause { IfErr result (λ why.
-            IsChildCause K.unit self.old.events
-            (dynamic_start (child Container segment.now name.now) self.old.events.stamp) why
+            IsDynamicCause C.Run.unit self.old.events (dynamic_start
+            (named_child Container segment.entry name.now) self.old.events.stamp) why
             ⊎ HasBegunDynamic self.old.events self.new.events
-            (child Container segment.now name.now)) }
+            (named_child Container segment.entry name.now)) }
         // Whatever the body does.
-        ensures same { IsSameSender K.unit.start self.new.events.sink }
-        ensures some { Extends K.unit.start self.new.events.sink }
+        ensures same { IsSameSender C.Run.unit.start self.new.events.sink }
+        ensures some { Extends C.Run.unit.start self.new.events.sink }
     {
-        let child = Child {
-            segment,
-            name,
-            dtype: DType::Container,
-        };
-        let ended = self.run_child(rt, alloc, &child, body);
+        let ended = self.run_dynamic(DType::Container, segment, name, body);
         self.events.shows_sink();
         ended
     }
@@ -327,34 +409,36 @@ impl<'a, S: Sink, K: UnitRun> Reporter<'a, S, K> {
     ///
     /// # Errors
     /// As [`Reporter::dynamic_test`].
-    pub fn skip_test<R: Wait>(
+    pub fn skip_test(
         &mut self,
-        rt: &R,
-        alloc: Global,
-        segment: &Segment,
+        segment: (&str, &str),
         name: &str,
-        reason: Text,
+        reason: &str,
     ) -> Result<(), UnitFault>
         ensures ok { OnOk result ((above : ℕ) × (key : ℕ)
             × HasSkipped self.old.events self.new.events
-            (child_request (child Test segment.now name.now) above self.old.events.stamp)
-            (event kinds.Skipped key self.old.events.stamp (payloads.Reason reason))) }
+            (child_request (named_child Test segment.entry name.now) above self.old.events.stamp)
+            (skip_at self.old.events reason.now key)) }
         ensures err { OnErr result (Grew self.old.events self.new.events) }
-        ensures free { OnOk result (¬ IsTaken K.unit self.old.events segment.now) }
-        ensures taken { IfErr result (λ why. IsTaken K.unit self.old.events segment.now
+        ensures free { OnOk result
+            (¬ IsTaken C.Run.unit self.old.events (segment_view segment.entry)) }
+        ensures taken { IfErr result (λ why.
+            IsTaken C.Run.unit self.old.events (segment_view segment.entry)
             → IsFaultOfTaken why × (self.new.events ≡ self.old.events)) }
-        ensures cause { IfErr result (IsChildCause K.unit self.old.events
-            (child_start (child Test segment.now name.now) self.old.events.stamp
-            (λ key. event kinds.Skipped key self.old.events.stamp (payloads.Reason reason)))) }
+        ensures cause { IfErr result (IsDynamicCause C.Run.unit self.old.events
+            (child_start (named_child Test segment.entry name.now) self.old.events.stamp
+            (skip_at self.old.events reason.now))) }
         ensures kept { self.new.child_fault ≡ self.old.child_fault }
     {
+        let reason = Payload::Reason(Text::copy(self.alloc, reason)?);
+        let segment = segment_of(self.alloc, segment)?;
         let child = Child {
-            segment,
+            segment: &segment,
             name,
             dtype: DType::Test,
         };
         let stamp = self.events.stamp();
         self.events
-            .skip_child(rt, alloc, &child, stamp, stamp, Payload::Reason(reason))
+            .skip_child(self.rt, self.alloc, &child, stamp, stamp, reason)
     }
 }

@@ -2,11 +2,10 @@
 ghost use Rattle.std.specs.Prelude.{◌≡◌, IfOk};
 ghost use Rattle.tk_engine_unit_events.specs.Endings.{payload_of};
 
+use crate::contexts::Context;
 use crate::reporters::Reporter;
-use std::alloc::Global;
-use std::sync::Wait;
-use tk_engine_execute::{Sink, UnitFault};
-use tk_engine_unit_events::{Outcome, UnitRun};
+use tk_engine_execute::UnitFault;
+use tk_engine_unit_events::Outcome;
 use tk_events::{Payload, Status};
 
 /// The tests of an engine: what each static test of its plan does.
@@ -27,24 +26,18 @@ pub trait Tests {
     ///
     /// The keys of a plan's static nodes are their numbers in preorder. `execute` calls this from
     /// the thread of the worker that drew the test's unit, right after the test's start. The test's
-    /// finish has the outcome. What the test publishes goes through `reporter`.
+    /// finish has the outcome. What the test publishes, and what it runs, goes through `test`.
     /// It is called once for each static node that is a test, where the plan skips neither the node
     /// nor one above it. The plan's dynamic nodes, and a test on the spine, whose children are units
     /// of their own, have no body: they finish as the plan says.
     ///
     /// # Errors
-    /// What `reporter` answered, or `Own(n)` where the engine can't go on. A test that fails is no
+    /// What `test` answered, or `Own(n)` where the engine can't go on. A test that fails is no
     /// error.
-    fn run<R: Wait, S: Sink, K: UnitRun>(
-        &self,
-        rt: &R,
-        alloc: Global,
-        key: u32,
-        reporter: &mut Reporter<'_, S, K>,
-    ) -> Result<Outcome, UnitFault>
+    fn run<C: Context>(&self, key: u32, test: &mut Reporter<C>) -> Result<Outcome, UnitFault>
         ensures end { IfOk result (λ outcome. may_end self.now key outcome) }
         ensures run { IfOk result (λ outcome.
-            may_run self.now key reporter.old.events reporter.new.events outcome) };
+            may_run self.now key test.old.events test.new.events outcome) };
 }
 
 /// The body of a dynamic test or container.
@@ -63,15 +56,10 @@ pub trait Body {
     ///
     /// # Errors
     /// As [`Tests::run`].
-    fn run<R: Wait, S: Sink, K: UnitRun>(
-        &self,
-        rt: &R,
-        alloc: Global,
-        reporter: &mut Reporter<'_, S, K>,
-    ) -> Result<Outcome, UnitFault>
+    fn run<C: Context>(&self, test: &mut Reporter<C>) -> Result<Outcome, UnitFault>
         ensures end { IfOk result (λ outcome. may_end self.now outcome) }
         ensures run { IfOk result (λ outcome.
-            may_run self.now reporter.old.events reporter.new.events outcome) };
+            may_run self.now test.old.events test.new.events outcome) };
 }
 
 /// The body that ends with this outcome, and publishes nothing.
@@ -80,12 +68,7 @@ impl Body for Outcome {
 
     ghost may_run = { λ body before after outcome. after ≡ before };
 
-    fn run<R: Wait, S: Sink, K: UnitRun>(
-        &self,
-        _rt: &R,
-        _alloc: Global,
-        _reporter: &mut Reporter<'_, S, K>,
-    ) -> Result<Outcome, UnitFault> {
+    fn run<C: Context>(&self, _test: &mut Reporter<C>) -> Result<Outcome, UnitFault> {
         Ok(self.try_clone()?)
     }
 }

@@ -9,6 +9,7 @@ use Rattle.std.proofs.lemmas.List.{map-append}
 use Rattle.std.proofs.lemmas.Option.{same_Some}
 use Rattle.tk_base.proofs.Options.{option_or-assoc, option_or_none_left, option_or_none_right}
 use Rattle.tk_ids.specs.IdText.{SegmentView}
+use Rattle.tk_ids.specs.Table.{unlocked}
 use Rattle.tk_ids.specs.declared.descriptors.Descriptor.{Descriptor}
 use Rattle.tk_events.specs.declared.kinds.Kind.TheVariants.{Dynamic}
 use Rattle.tk_events.specs.declared.payloads.Payload.TheVariants.{Described, Nothing}
@@ -29,9 +30,8 @@ use Rattle.tk_plan.specs.Cutting.{script_of}
 use Rattle.tk_plan.specs.Numbers.{in_order, IsNumbered}
 use Rattle.tk_plan.specs.Planned.{IsPlanned}
 use Rattle.tk_plan.specs.Events.{event}
-use Rattle.tk_plan.specs.Ids.{descriptor}
 use Rattle.tk_plan.specs.StepEvents.{kind_of, payload_of}
-use Rattle.tk_plan_laws.specs.Scripts.{ArePlayable, IsPlayable, HasKey, id_at, is_registration, key_of, key_for, known_in, known_after, played, payload_of_node, step_event}
+use Rattle.tk_plan_laws.specs.Scripts.{ArePlayable, IsPlayable, HasKey, id_at, is_registration, key_of, key_for, known_in, known_after, played, payload_of_node, registered, step_event}
 use Rattle.tk_plan_laws.specs.Laws.{ScriptsArePlayable, NodesAreFound}
 use Rattle.tk_engine_execute.specs.Engines.{IsSameSender}
 use Rattle.tk_engine_execute.proofs.Emitted.{registrations-append}
@@ -135,7 +135,7 @@ module _ (nodes : List NumberedNode) (table : List Descriptor) (planned : IsPlan
       let its : key ≡ key_of (length table) base known s.node = same_Some _ _ (sym found ∙ has_its_key nodes table base known keys was.keys_are s.node there) in
       let key_is : key ≡ key_for (length table) base known s = its ∙ sym (ap (λ b. if b then base + length known else key_of (length table) base known s.node) plain) in
       let says : payload_of t.node s.act ≡ payload_of_node (slice_get (in_order nodes) s.node) (id_at nodes s.node) s.act =
-      sym (ap (λ (b : Bool). if b then Described (descriptor (id_at nodes s.node) t.node) else payload_of t.node s.act) plain) ∙ sym (ap (λ o. payload_of_node o (id_at nodes s.node) s.act) t.is) in
+      sym (ap (λ (b : Bool). if b then Described (registered (id_at nodes s.node) t.node) else payload_of t.node s.act) plain) ∙ sym (ap (λ o. payload_of_node o (id_at nodes s.node) s.act) t.is) in
       let event_of_step : event (kind_of s.act) key s.stamp (payload_of t.node s.act) ≡ step_event nodes (length table) base known s = ap₂ (λ k p. event (kind_of s.act) k s.stamp p) key_is says in
       let same : known_in [] (prefix ++ s ∷ []) ≡ known = known_in_more [] prefix s ∙ ap (λ b. if b then known ++ s.node ∷ [] else known) plain in
       record {
@@ -171,7 +171,7 @@ module _ (nodes : List NumberedNode) (table : List Descriptor) (planned : IsPlan
         let next : registered_key old.worker (registrations (sent ++ l)) ≡ base + length known = omega (arith, count, split) in
         let key_is : registered_key old.worker (registrations old.sent) ≡ base + length known = ap (λ es. registered_key old.worker (registrations es)) was.emitted ∙ next in
         let event_of_step : registration old stamp (child upper r.node.segment r.node.name r.node.dtype) ≡ step_event nodes (length table) base known step =
-        ap₂ (λ k i. event Dynamic k stamp (Described (record { id = i; name = r.node.name; dtype = r.node.dtype }))) key_is id_is
+        ap₂ (λ k i. event Dynamic k stamp (Described (unlocked i r.node.name r.node.dtype))) key_is id_is
         ∙ sym (ap (λ o. event Dynamic (base + length known) stamp (payload_of_node o (id_at nodes number) (Register parent))) r.is) in
         let longer : known_in [] (prefix ++ step ∷ []) ≡ known ++ number ∷ [] = known_in_more [] prefix step in
         let fresh : key ≡ base + length known = r.registered.4 ∙ key_is in

@@ -31,7 +31,7 @@ use Rattle.tk_engine_unit_events.specs.Running.{keys_of, with_id, with_ids}
 use Rattle.tk_engine_unit_events.specs.Shapes.{ShapeView, frame}
 use Rattle.tk_engine_unit_events.specs.Standing.{AreNoted, BegunUnit, IsKnown, IsNotedText}
 use Rattle.tk_engine_unit_events.specs.Taken.{IsTaken}
-use Rattle.tk_engine_unit_events.specs.Refusals.{ChildStart, HasInnermost, IsChildCause}
+use Rattle.tk_engine_unit_events.specs.Refusals.{ChildStart, HasInnermost, HasRefused, IsChildCause}
 use Rattle.tk_engine_unit_events.specs.Refusals.{IsEmitCause, IsInnermostKey}
 use Rattle.tk_engine_unit_events.specs.UnitSteps.{UnitView, child_request}
 use Rattle.tk_engine_unit_events.specs.steps.Taken.{IsNotedChild, IsOwnCause, IsSinkCause}
@@ -127,6 +127,27 @@ send_is_other e = cc
 
 no_innermost : (key : ℕ) (outer : List ℕ) → [] ≡ key ∷ outer → ⊥
 no_innermost key outer e = cc
+
+-- where no first event was refused, the unit is as it was
+pub left_same : (old new : UnitView) (c : ChildStart) (why : UnitFault)
+    → ((fault : SendFault) → why ≡ Sink (Send fault) → ⊥) → new ≡ old → HasRefused old new c why
+left_same old new c (Own number) other same = same
+left_same old new c Memory other same = same
+left_same old new c (Sink (Register why)) other same = same
+left_same old new c (Sink (Send why)) other same = absurd (other why refl)
+
+pub memory_is_other : {fault : SendFault} → Memory ≡ Sink (Send fault) → ⊥
+memory_is_other e = cc
+
+pub own_is_other : {number : ℕ} {fault : SendFault} → Own number ≡ Sink (Send fault) → ⊥
+own_is_other e = cc
+
+-- a refused registration is no refused event
+pub not_sent : (s : SenderView) (ask : RegisterRequest) (above : List SegmentView)
+    (why : UnitFault) → IsSinkCause s ask above why
+    → (fault : SendFault) → why ≡ Sink (Send fault) → ⊥
+not_sent s ask above why sunk fault is =
+    ⊎_elim (λ a. send_is_other a.1) (λ b. b) (sunk (Send fault) is)
 
 pub same_own : {a b : ℕ} → Own a ≡ Own b → a ≡ b
 same_own e = cc
@@ -301,3 +322,16 @@ module _ (s : ShapeView) (unit : BegunUnit) (sink : SenderView) (u : UnitView)
         (Ok key)) (sym now) done;
     refused = refused;
   }
+
+  -- so the unit is left with the child registered
+  pub left_registered : (new : UnitView) (c : ChildStart) (after : SenderView) (key : ℕ)
+      (why : UnitFault)
+      → IsRegisteredAs sink after (child_request c.child first.key c.registered) (Ok key)
+      → IsEmitCause after (c.first key) why → new ≡ record u { sink = after }
+      → HasRefused u new c why
+  unfolding unsent
+  left_registered new c after key (Own number) done refused left = absurd refused
+  left_registered new c after key Memory done refused left = absurd refused
+  left_registered new c after key (Sink (Register why)) done refused left = absurd refused
+  left_registered new c after key (Sink (Send why)) done refused left =
+      (unsent c after key (Sink (Send why)) done refused, left)

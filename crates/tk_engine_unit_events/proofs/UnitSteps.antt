@@ -57,6 +57,12 @@ pub if_err_then : {R F : Type 0} (P Q : F → Type 0) (r : Result R F) → IfErr
 if_err_then P Q (Ok _) a f = tt
 if_err_then P Q (Err why) a f = f why a
 
+-- where a result is an error, what holds of it and what holds of each error hold together
+pub both_err : {R F A : Type 0} (P Q : F → Type 0) (r : Result R F) → OnErr r A → IfErr r P
+    → ((why : F) → A → P why → Q why) → IfErr r Q
+both_err P Q (Ok _) a p f = tt
+both_err P Q (Err why) a p f = f why a p
+
 -- what holds whatever the fault is
 pub if_err : {R F : Type 0} (P : F → Type 0) (r : Result R F) → ((why : F) → P why) → IfErr r P
 if_err P (Ok _) f = tt

@@ -34,9 +34,17 @@ IsPublishCause u event why =
     ((u.running ≡ []) × (why ≡ Own OUT_OF_ORDER))
     ⊎ ((key : ℕ) × IsInnermostKey u.running key × IsEmitCause u.sink (event key) why)
 
+-- the static key isn't the one whose turn it is, or the sink refused the event
+abbrev pub IsTurnCause : UnitView → Event → UnitFault → Type 0
+IsTurnCause u e why = (why ≡ Own OUT_OF_ORDER) ⊎ IsEmitCause u.sink e why
+
+-- a request for memory was refused, or the static key has no turn
+abbrev pub IsStartCause : UnitView → Event → UnitFault → Type 0
+IsStartCause u e why = (why ≡ Memory) ⊎ IsTurnCause u e why
+
 -- the event's key isn't the innermost running one, or the sink refused the event
-abbrev pub IsFinishCause : UnitView → Event → UnitFault → Type 0
-IsFinishCause u e why =
+abbrev pub IsInnermostCause : UnitView → Event → UnitFault → Type 0
+IsInnermostCause u e why =
     ((¬ IsInnermostKey u.running e.key) × (why ≡ Own OUT_OF_ORDER))
     ⊎ (IsInnermostKey u.running e.key × IsEmitCause u.sink e why)
 
@@ -91,3 +99,12 @@ IsChildCause unit u c Memory = Unit {0}
 IsChildCause unit u c (Sink (Register why)) =
     (IsTooLong u c.child.segment × (why ≡ Id TooLong)) ⊎ IsUnregistered u c why
 IsChildCause unit u c (Sink (Send why)) = IsUnsent u c why
+
+-- What a refused child leaves: the unit as it was; or, where the sink registered the child and
+-- refused its first event, the unit with the child registered.
+abbrev pub HasRefused : UnitView → UnitView → ChildStart → UnitFault → Type 0
+HasRefused old new c (Own number) = new ≡ old
+HasRefused old new c Memory = new ≡ old
+HasRefused old new c (Sink (Register why)) = new ≡ old
+HasRefused old new c (Sink (Send why)) =
+    (unsent : IsUnsent old c why) × (new ≡ record old { sink = unsent.registered })

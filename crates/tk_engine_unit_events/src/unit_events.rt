@@ -9,7 +9,7 @@ ghost use Rattle.tk_engine_unit_events.specs.Endings.{IsStaticTest};
 ghost use Rattle.tk_engine_unit_events.specs.UnitSteps.{Grew, HasFinished, HasSkipped, HasStarted, IsInnermost, KeepsOuter, Published, child_request, event, publishes, after_event, after_start, begun};
 ghost use Rattle.tk_engine_unit_events.specs.Shapes.{count_units, frame, keys_in};
 ghost use Rattle.tk_engine_unit_events.specs.Standing.{IsComplete, StandsAt};
-ghost use Rattle.tk_engine_unit_events.specs.Refusals.{IsChildCause, IsFinishCause, IsPublishCause, child_start};
+ghost use Rattle.tk_engine_unit_events.specs.Refusals.{HasRefused, IsChildCause, IsInnermostCause, IsPublishCause, IsStartCause, IsTurnCause, child_start};
 ghost use Rattle.tk_engine_unit_events.specs.Taken.{IsFaultOfTaken, IsTaken};
 ghost use Rattle.tk_engine_unit_events.specs.steps.Standing.{unit_view};
 ghost use Rattle.tk_engine_unit_events.specs.declared.running_keys.RunningKey.{RunningKey};
@@ -254,6 +254,7 @@ impl<'a, S: Sink, K: UnitRun> UnitEvents<'a, S, K> {
         ensures ok { IfOk result (λ d. IsInnermost K.unit.frame.table self.now.running d.now) }
         ensures err { OnErr result
             ((d : DescriptorView) → ¬ IsInnermost K.unit.frame.table self.now.running d) }
+        ensures cause { IfErr result (λ why. why ≡ Own OUT_OF_ORDER) }
     {
         let Some(innermost) = self.progress.running.top() else {
             return Err(UnitFault::Own(OUT_OF_ORDER));
@@ -309,8 +310,10 @@ impl<'a, S: Sink, K: UnitRun> UnitEvents<'a, S, K> {
     /// Starts the next static descriptor, below the innermost running key.
     pub fn start<R: Wait>(&mut self, rt: &R, key: u32, stamp: u64) -> Result<(), UnitFault>
         requires { K.unit.may_step (event Started key stamp Nothing) }
-        ensures { OnOk result
+        ensures ok { OnOk result
             (self.new ≡ after_start self.old (event Started key stamp Nothing)) }
+        ensures err { OnErr result (self.new ≡ self.old) }
+        ensures cause { IfErr result (IsStartCause self.old (event Started key stamp Nothing)) }
     {
         let Some(next) = key.checked_add(1) else {
             return Err(UnitFault::Own(OUT_OF_ORDER));
@@ -346,8 +349,10 @@ impl<'a, S: Sink, K: UnitRun> UnitEvents<'a, S, K> {
         reason: Payload,
     ) -> Result<(), UnitFault>
         requires { K.unit.may_step (event Skipped key stamp reason) }
-        ensures { OnOk result
+        ensures ok { OnOk result
             (self.new ≡ after_event self.old (event Skipped key stamp reason)) }
+        ensures err { OnErr result (self.new ≡ self.old) }
+        ensures cause { IfErr result (IsTurnCause self.old (event Skipped key stamp reason)) }
     {
         if key != self.progress.next {
             return Err(UnitFault::Own(OUT_OF_ORDER));
@@ -406,8 +411,11 @@ impl<'a, S: Sink, K: UnitRun> UnitEvents<'a, S, K> {
         payload: Payload,
     ) -> Result<(), UnitFault>
         requires { publishes kind ≡ true }
-        ensures { OnOk result
+        ensures ok { OnOk result
             (self.new ≡ after_event self.old (event kind key stamp payload)) }
+        ensures err { OnErr result (self.new ≡ self.old) }
+        ensures cause { IfErr result
+            (IsInnermostCause self.old (event kind key stamp payload)) }
     {
         if innermost(&self.progress.running)?.key != key {
             return Err(UnitFault::Own(OUT_OF_ORDER));
@@ -429,7 +437,7 @@ impl<'a, S: Sink, K: UnitRun> UnitEvents<'a, S, K> {
             (HasFinished self.old self.new (event Finished key stamp outcome)) }
         ensures err { OnErr result (self.new ≡ self.old) }
         ensures cause { IfErr result
-            (IsFinishCause self.old (event Finished key stamp outcome)) }
+            (IsInnermostCause self.old (event Finished key stamp outcome)) }
     {
         let innermost = innermost(&self.progress.running)?;
         if innermost.key != key {
@@ -465,6 +473,8 @@ impl<'a, S: Sink, K: UnitRun> UnitEvents<'a, S, K> {
             → IsFaultOfTaken why × (self.new ≡ self.old)) }
         ensures cause { IfErr result (IsChildCause K.unit self.old (child_start child.now registered
             (λ key. event Started key stamp Nothing))) }
+        ensures refused { IfErr result (HasRefused self.old self.new (child_start child.now
+            registered (λ key. event Started key stamp Nothing))) }
     {
         self.progress.running.reserve()?;
         let innermost = innermost(&self.progress.running)?;
@@ -510,6 +520,8 @@ impl<'a, S: Sink, K: UnitRun> UnitEvents<'a, S, K> {
             → IsFaultOfTaken why × (self.new ≡ self.old)) }
         ensures cause { IfErr result (IsChildCause K.unit self.old (child_start child.now registered
             (λ key. event Skipped key stamp reason))) }
+        ensures refused { IfErr result (HasRefused self.old self.new (child_start child.now
+            registered (λ key. event Skipped key stamp reason))) }
     {
         let innermost = innermost(&self.progress.running)?;
         let (key, _id) = self.lease.register_child(

@@ -20,6 +20,10 @@ use Rattle.tk_query.specs.declared.answers.InOrder.TheVariants as in_order
 use Rattle.tk_query.specs.declared.answers.Loose.{Loose}
 use Rattle.tk_query.specs.declared.answers.Loose.TheVariants as loose
 use Rattle.tk_query.specs.declared.execution.Execution.{Execution}
+use Rattle.tk_query_locks.specs.declared.answers.LockAnswer.{LockAnswer}
+use Rattle.tk_query_locks.specs.declared.answers.LockAnswer.TheVariants as lock_answers
+use Rattle.tk_query_locks.specs.AnswerTexts.{lock_answer_text, lock_answer_yes}
+use Rattle.tk_query_locks.proofs.AnswerIsUnique.{one_answer}
 use Rattle.tk_query.specs.AnswerTexts.{exact_text, exact_yes, exclusive_text, exclusive_yes, in_order_text, in_order_yes, loose_text, loose_yes, position_text}
 use Rattle.tk_query.specs.Asked.{fits}
 use Rattle.tk_query.specs.ExecutionSteps.{step_at}
@@ -31,6 +35,7 @@ use Rattle.tk_query.proofs.ExclusionLemmas.{one_span}
 use Rattle.tk_query_nearest.specs.Nearness.{IsNearest}
 use Rattle.tk_query_nearest.proofs.NearestIsUnique.{one_nearest}
 use Rattle.tk_explanations.specs.Collisions.{AreCollisionRows, ExplainsExclusive, IsExclusiveExplanation, StartsAt, holder_rows, overlap_rows, writers_said}
+use Rattle.tk_explanations.specs.LockCollisions.{AreLockRows, ExplainsLocks, IsLockExplanation, holding_row}
 use Rattle.tk_explanations.specs.Laws.{IsUnique}
 use Rattle.tk_explanations.specs.Lifecycles.{ExplainsLifecycle, IsLifecycleExplanation, is_kept, lifecycle_rows}
 use Rattle.tk_explanations.specs.Lists.{ExplainsExecutions, ExplainsList, listed_execution}
@@ -39,7 +44,7 @@ use Rattle.tk_explanations.specs.Matches.{AreFirstFits, AreInOrderRows, AreLoose
 use Rattle.tk_explanations.specs.Rows.{AsText, rows_text}
 use Rattle.tk_explanations.specs.Statistics.{ExplainsStatistics}
 use Rattle.tk_explanations.specs.declared.rows.Row.{Row}
-use Rattle.tk_explanations.specs.declared.rows.Row.TheVariants.{Line}
+use Rattle.tk_explanations.specs.declared.rows.Row.TheVariants.{Line, Overlap, OverlapOver}
 
 -- at most one answer, and at most one list of rows
 abbrev AreOne : (Bool → List Row → Type 0) → Type 0
@@ -162,7 +167,7 @@ module _ (asked : Selected) (writers readers : Condition) where
   collision_below (exclusives.No p q) xs ys a b =
       let said = writers_said asked writers readers p q in
       a.4
-      ∙ ap₂ (λ (x y : Execution). overlap_rows x y said)
+      ∙ ap₂ (λ (x y : Execution). overlap_rows x y (Overlap x y said))
       (one_start asked p a.0 b.0 a.2 b.2) (one_start asked q a.1 b.1 a.3 b.3)
       ∙ sym b.4
   collision_below exclusives.NoPair xs ys a b =
@@ -182,6 +187,35 @@ module _ (asked : Selected) (writers readers : Condition) where
 
 pub one_exclusion : (asked : Selected) (writers readers : Condition) → IsUnique (ExplainsExclusive asked writers readers)
 one_exclusion asked writers readers = one_text (IsExclusiveExplanation asked writers readers) asked.recorded (exclusive_rows_one asked writers readers)
+
+-- ---- locks
+
+module _ (asked : Selected) where
+  lock_below :
+      (answer : LockAnswer) (xs ys : List Row) →
+      AreLockRows asked answer xs → AreLockRows asked answer ys → xs ≡ ys
+  lock_below lock_answers.Yes xs ys a b = a ∙ sym b
+  lock_below (lock_answers.No p q name) xs ys a b =
+      a.4
+      ∙ ap₂ (λ (x y : Execution). overlap_rows x y (OverlapOver x y name))
+      (one_start asked p a.0 b.0 a.2 b.2) (one_start asked q a.1 b.1 a.3 b.3)
+      ∙ sym b.4
+  lock_below lock_answers.NoPair xs ys a b =
+      a.2
+      ∙ ap (λ (l : List Execution). holding_row asked.recorded l ∷ []) (one_list asked a.0 b.0 a.1 b.1)
+      ∙ sym b.2
+
+  lock_rows_one : AreOne (IsLockExplanation asked)
+  lock_rows_one a b xs ys x y =
+      let same = one_answer asked x.0 y.0 x.1 y.1 in
+      let Below : LockAnswer → Type 0 = λ e. AreLockRows asked e x.3 in
+      let below = lock_below y.0 x.3 y.3 (subst Below same x.4) y.4 in (
+        x.2 ∙ ap (λ (e : LockAnswer). lock_answer_yes e) same ∙ sym y.2,
+        x.5 ∙ ap₂ (λ (e : LockAnswer) (l : List Row). Line (lock_answer_text e) ∷ l) same below ∙ sym y.5,
+      )
+
+pub one_locks : (asked : Selected) → IsUnique (ExplainsLocks asked)
+one_locks asked = one_text (IsLockExplanation asked) asked.recorded (lock_rows_one asked)
 
 -- ---- lifecycles
 

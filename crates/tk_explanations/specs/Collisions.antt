@@ -45,11 +45,15 @@ writers_said asked writers readers p q =
     then writers_among (is_writer asked writers readers p) (is_writer asked writers readers q)
     else Unsaid
 
--- that two executions overlap, and the rows of their four events in order
-abbrev pub overlap_rows : Execution → Execution → Writers → List Row
-overlap_rows x y said =
-    Overlap x y said ∷ Event x.first Nothing ∷ Event y.first Nothing
+-- the row that two executions overlap, and the rows of their four events in order
+abbrev pub overlap_rows : Execution → Execution → Row → List Row
+overlap_rows x y overlap =
+    overlap ∷ Event x.first Nothing ∷ Event y.first Nothing
     ∷ Event (min x.last y.last) Nothing ∷ Event (max x.last y.last) Nothing ∷ []
+
+-- what is said of two executions that overlap, and of which of them is a writer's
+abbrev pub collision_rows : Execution → Execution → Writers → List Row
+collision_rows x y said = overlap_rows x y (Overlap x y said)
 
 -- whether the execution is a start and a finish, and the condition holds of its start
 abbrev pub is_held : Selected → Condition → Execution → Bool
@@ -73,7 +77,7 @@ module _ (asked : Selected) (writers readers : Condition) where
   AreCollisionRows (No p q) rows =
       (x : Execution) × (y : Execution)
       × StartsAt asked p x × StartsAt asked q y
-      × (rows ≡ overlap_rows x y (writers_said asked writers readers p q))
+      × (rows ≡ collision_rows x y (writers_said asked writers readers p q))
   AreCollisionRows NoPair rows =
       (xs : List Execution) × AreExecutions (step_at asked) xs
       × (rows ≡ holder_rows asked xs writers readers)

@@ -5,6 +5,7 @@ pub mod Rows
 pub mod Explained
 pub mod Lists
 pub mod Collisions
+pub mod LockCollisions
 pub mod Statistics
 pub mod MatchRows
 pub mod Matches

@@ -16,7 +16,7 @@ use Rattle.std.specs.Prelude.{
 use Rattle.std.specs.List.{flat_map}
 use Rattle.std.specs.Fmt.{decimal}
 use Rattle.tk_events.specs.declared.events.Entry.{Entry}
-use Rattle.tk_events.specs.Fields.{line_feed}
+use Rattle.tk_events.specs.Fields.{field_text, line_feed}
 use Rattle.tk_record.specs.Entries.{desc}
 use Rattle.tk_record.specs.Recorded.{Recorded}
 use Rattle.tk_record_text.specs.Spelling.{entry_line}
@@ -34,6 +34,7 @@ use Rattle.tk_explanations.specs.declared.rows.Row.TheVariants.{
   NoneLeft,
   Counts,
   Overlap,
+  OverlapOver,
   Executions,
   More,
   Sentence,
@@ -78,6 +79,8 @@ row_text r NoneLeft = codes "    no event is left"
 row_text r (Counts n m) = decimal n ++ codes " conditions, " ++ decimal m ++ codes " events"
 row_text r (Overlap x y said) =
     span_text r x ++ codes " and " ++ span_text r y ++ codes " overlap" ++ writers_text said
+row_text r (OverlapOver x y name) =
+    span_text r x ++ codes " and " ++ span_text r y ++ codes " overlap, over " ++ field_text name
 row_text r (Executions n) = codes "    " ++ decimal n ++ codes " executions"
 row_text r (More n) = codes "    and " ++ decimal n ++ codes " more"
 row_text r (Sentence sentence) = sentence_text r sentence

@@ -44,8 +44,11 @@ fn start_of(_events: &Events<'_>, list: &Executions, start: usize) -> Execution
     found
 }
 
-// The executions that start at these positions.
-fn starting_at_both(
+/// The executions that start at these positions.
+///
+/// # Errors
+/// `AllocError` where a request for memory is refused.
+pub(crate) fn starting_at_both(
     alloc: Global,
     events: &Events<'_>,
     first: usize,
@@ -62,18 +65,21 @@ fn starting_at_both(
     Ok((starting, later))
 }
 
-// Adds that two executions overlap, and the rows of their four events.
-fn add_overlap(
+/// Adds the row that two executions overlap, and the rows of their four events.
+///
+/// # Errors
+/// `AllocError` where a request for memory is refused.
+pub(crate) fn add_overlap(
     rows: &mut Vec<Row>,
     first: Execution,
     second: Execution,
-    said: Writers,
+    overlap: Row,
 ) -> Result<(), AllocError>
-    ensures { OnOk result (rows.new.items ≡ rows.old.items ++ overlap_rows first second said) }
+    ensures { OnOk result (rows.new.items ≡ rows.old.items ++ overlap_rows first second overlap) }
 {
     let sooner = first.last.min(second.last);
     let later = first.last.max(second.last);
-    rows.push(Row::Overlap(first, second, said))?;
+    rows.push(overlap)?;
     rows.push(Row::Event(first.first, Note::Nothing))?;
     rows.push(Row::Event(second.first, Note::Nothing))?;
     rows.push(Row::Event(sooner, Note::Nothing))?;
@@ -178,7 +184,7 @@ fn add_below(
         Exclusive::No(first, second) => {
             let said = writers_said(alloc, events, writers, readers, first, second)?;
             let (one, other) = starting_at_both(alloc, events, first, second)?;
-            add_overlap(rows, one, other, said)
+            add_overlap(rows, one, other, Row::Overlap(one, other, said))
         }
         Exclusive::NoPair => {
             let list = executions(alloc, events)?;

@@ -13,8 +13,10 @@ use crate::faults::ExplainFault;
 use crate::pieces::{put_descriptor_of, put_event_text, put_number};
 use crate::rows::{Note, Row, Writers};
 use crate::sentence_texts::put_sentence;
+use tk_ids::Text;
 use tk_query::Execution;
 use tk_record::{EntryView, Record};
+use tk_record_text::put_text;
 use tk_streams::{Broken, Piece, Target};
 
 fn put_note<T: Target>(piece: &mut Piece, target: &mut T, note: &Note)
@@ -148,6 +150,25 @@ fn put_overlap<T: Target>(
     piece.put(target, writers_words(said).as_bytes());
 }
 
+fn put_overlap_over<T: Target>(
+    piece: &mut Piece,
+    target: &mut T,
+    record: &Record,
+    first: Execution,
+    second: Execution,
+    name: &Text,
+)
+    ensures { Adds (outgoing (T.contents target.old) (T.broken target.old) piece.old)
+        (outgoing (T.contents target.new) (T.broken target.new) piece.new)
+        (row_text «record».now (Row.OverlapOver first second name.now)) }
+{
+    put_span(piece, target, record, first);
+    piece.put(target, b" and ");
+    put_span(piece, target, record, second);
+    piece.put(target, b" overlap, over ");
+    put_text(piece, target, name.as_str());
+}
+
 fn put_executions<T: Target>(piece: &mut Piece, target: &mut T, number: usize)
     ensures { Adds (outgoing (T.contents target.old) (T.broken target.old) piece.old)
         (outgoing (T.contents target.new) (T.broken target.new) piece.new)
@@ -171,6 +192,9 @@ fn put_row<T: Target>(piece: &mut Piece, target: &mut T, record: &Record, row: &
         Row::Counts(conditions, events) => put_counts(piece, target, *conditions, *events),
         Row::Overlap(first, second, said) => {
             put_overlap(piece, target, record, *first, *second, *said)
+        }
+        Row::OverlapOver(first, second, name) => {
+            put_overlap_over(piece, target, record, *first, *second, name)
         }
         Row::Executions(number) => put_executions(piece, target, *number),
         Row::More(count) => put_more(piece, target, *count),

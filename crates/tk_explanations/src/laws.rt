@@ -7,6 +7,7 @@ ghost use Rattle.tk_query_conditions.specs.declared.conditions.Condition.{Condit
 ghost use Rattle.tk_explanations.specs.Collisions.{ExplainsExclusive};
 ghost use Rattle.tk_explanations.specs.Laws.{IsUnique};
 ghost use Rattle.tk_explanations.specs.Lifecycles.{ExplainsLifecycle};
+ghost use Rattle.tk_explanations.specs.LockCollisions.{ExplainsLocks};
 ghost use Rattle.tk_explanations.specs.Lists.{ExplainsExecutions, ExplainsList};
 ghost use Rattle.tk_explanations.specs.Statistics.{ExplainsStatistics};
 ghost use Rattle.tk_explanations.specs.Matches.{ExplainsExactly, ExplainsInOrder, ExplainsLoosely};
@@ -46,6 +47,11 @@ pub fn executions_is_unique()
 pub fn exclusive_is_unique()
     ensures { (asked : Selected) (writers readers : Condition)
         → IsUnique (ExplainsExclusive asked writers readers) }
+{}
+
+/// The same events have one explanation whether executions kept apart that conflict over a lock.
+pub fn locks_is_unique()
+    ensures { (asked : Selected) → IsUnique (ExplainsLocks asked) }
 {}
 
 /// A record has one explanation of its lifecycle.

@@ -43,6 +43,8 @@ pub(crate) enum Row {
     Counts(usize, usize),
     /// These executions overlap.
     Overlap(Execution, Execution, Writers),
+    /// These executions overlap, and conflict over the lock of this name.
+    OverlapOver(Execution, Execution, Text),
     /// How many executions there are.
     Executions(usize),
     /// How many events more there are.

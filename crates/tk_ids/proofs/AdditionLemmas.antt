@@ -8,7 +8,7 @@ use Rattle.tk_ids.specs.declared.descriptors.Descriptor.{Descriptor}
 use Rattle.tk_ids.specs.declared.tables.TableFault.{TableFault}
 use Rattle.tk_ids.specs.declared.tables.TableFault.TheVariants.{NoParent, Twice, Full, Id, Memory}
 use Rattle.tk_ids.specs.IdText.{SegmentView, FitsLimits}
-use Rattle.tk_ids.specs.Table.{HasId, child_id, addition, IsAddedAs, IsInsertedAs}
+use Rattle.tk_ids.specs.Table.{HasId, child_id, unlocked, addition, IsAddedAs, IsInsertedAs}
 use Rattle.tk_ids.specs.Laws.{AdditionIsUnique, InsertionIsUnique}
 
 not_full : (old : List Descriptor) → length old < MAX_DESCRIPTORS → length old ≡ MAX_DESCRIPTORS → ⊥
@@ -37,7 +37,7 @@ module _ (old new other : List Descriptor) (parent : Option ℕ) (segment : Segm
   added : (a b : Result ℕ TableFault) → Left a → Right b → a ≢ Err Memory → b ≢ Err Memory → Same a b
   added (Err Memory) b h k na nb = absurd (na refl)
   added a (Err Memory) h k na nb = absurd (nb refl)
-  added (Ok m) (Ok n) h k na nb = (ap Ok (h.5 ∙ sym k.5), h.6 ∙ ap (λ id. old ++ record { id = id; name = name; dtype = dtype } ∷ []) (one_id h.0 k.0 h.1 k.1) ∙ sym k.6)
+  added (Ok m) (Ok n) h k na nb = (ap Ok (h.5 ∙ sym k.5), h.6 ∙ ap (λ id. old ++ unlocked id name dtype ∷ []) (one_id h.0 k.0 h.1 k.1) ∙ sym k.6)
   added (Ok m) (Err NoParent) h k na nb = absurd (no_id h.0 h.1 k.0)
   added (Ok m) (Err Twice) h k na nb = absurd (h.3 (subst (HasId old) (one_id k.0 h.0 k.1 h.1) k.2))
   added (Ok m) (Err Full) h k na nb = absurd (not_full old h.4 k.3)

@@ -1,5 +1,5 @@
 -- The table of descriptors, as a list.
-use Rattle.std.specs.Prelude.{◌≡◌, ℕ, ◌<◌, List, [], ◌∷◌, ◌++◌, length, map, Option, Some, None}
+use Rattle.std.specs.Prelude.{◌≡◌, ℕ, zero, suc, ◌<◌, ◌≤◌, List, [], ◌∷◌, ◌++◌, length, map, Option, Some, None}
 use Rattle.std.specs.Prelude.{option_map, slice_get, Result, Ok, Err}
 use Rattle.tk_ids.specs.declared.tables.TheConstants.{MAX_DESCRIPTORS}
 use Rattle.tk_ids.specs.declared.id_faults.IdFault.TheVariants as id_faults
@@ -7,7 +7,17 @@ use Rattle.tk_ids.specs.declared.descriptors.DType.{DType}
 use Rattle.tk_ids.specs.declared.descriptors.Descriptor.{Descriptor}
 use Rattle.tk_ids.specs.declared.tables.TableFault.{TableFault}
 use Rattle.tk_ids.specs.declared.tables.TableFault.TheVariants.{NoParent, Twice, Full, Id, Memory}
+use Rattle.std.specs.List.{AllByRecursion}
+use Rattle.tk_ids.specs.declared.locks.Lock.{Lock}
+use Rattle.tk_ids.specs.declared.tables.LockFault.{LockFault}
+use Rattle.tk_ids.specs.declared.tables.LockFault.TheVariants.{NoDescriptor, NoName}
+use Rattle.tk_ids.specs.declared.tables.LockFault.TheVariants as lock_faults
+use Rattle.tk_ids.specs.Locks.{AreLocks, mode_of, mode_with}
 use Rattle.tk_ids.specs.IdText.{SegmentView, IsId, id_text, FitsLimits, parent_of}
+
+-- the descriptor of this id, name and type that declares no lock
+abbrev pub unlocked : List SegmentView → List ℕ → DType → Descriptor
+unlocked id name dtype = record { id = id; name = name; dtype = dtype; locks = [] }
 
 -- the ids of the descriptors, in the order of their keys
 abbrev pub ids_of : List Descriptor → List (List SegmentView)
@@ -46,7 +56,7 @@ abbrev pub IsAddedAs : List Descriptor → List Descriptor → Addition → Resu
 IsAddedAs old new d (Ok key) =
     (id : List SegmentView) × (child_id old d.parent d.segment ≡ Some id)
     × FitsLimits id × ¬ (HasId old id) × (length old < MAX_DESCRIPTORS)
-    × (key ≡ length old) × (new ≡ old ++ record { id = id; name = d.name; dtype = d.dtype } ∷ [])
+    × (key ≡ length old) × (new ≡ old ++ unlocked id d.name d.dtype ∷ [])
 IsAddedAs old new d (Err NoParent) =
     (child_id old d.parent d.segment ≡ None) × (new ≡ old)
 IsAddedAs old new d (Err Twice) =
@@ -68,6 +78,42 @@ IsKept e = (e.0 ≡ id_text e.1.id) × IsId e.1.id × FitsLimits e.1.id
 -- the id is a root's, or a descriptor has the id without its last segment
 abbrev pub HasParent : List Descriptor → List SegmentView → Type 0
 HasParent table id = 1 < length id → HasId table (parent_of id)
+
+-- of each id that isn't a root's, the one above it has a lower key
+abbrev pub HasParents : List Descriptor → Type 0
+HasParents table =
+    (key : ℕ) (id : List SegmentView) → slice_get (ids_of table) key ≡ Some id → 1 < length id →
+    (above : ℕ) × (above < key) × (slice_get (ids_of table) above ≡ Some (parent_of id))
+
+-- the locks of each descriptor are in the order of their names, each of which is there once
+abbrev pub HaveLocks : List Descriptor → Type 0
+HaveLocks table = AllByRecursion (λ d. AreLocks d.locks) table
+
+-- the table in which the descriptor with this key has these locks
+abbrev pub with_locks : List Descriptor → ℕ → List Lock → List Descriptor
+with_locks [] key locks = []
+with_locks (d ∷ table) zero locks =
+    record { id = d.id; name = d.name; dtype = d.dtype; locks = locks } ∷ table
+with_locks (d ∷ table) (suc key) locks = d ∷ with_locks table key locks
+
+-- the locks of the descriptor with this key
+abbrev pub locks_at : List Descriptor → ℕ → List Lock
+locks_at [] key = []
+locks_at (d ∷ table) zero = d.locks
+locks_at (d ∷ table) (suc key) = locks_at table key
+
+-- what adding a lock to the descriptor with this key answers, and the table after it; the answer
+-- may always be `Memory`
+abbrev pub IsLockedAs :
+    List Descriptor → List Descriptor → ℕ → Lock → Result (Unit {0}) LockFault → Type 0
+IsLockedAs old new key lock (Ok _) =
+    (key < length old) × (0 < length lock.name) × (locks : List Lock)
+    × (new ≡ with_locks old key locks)
+    × ((name : List ℕ) → mode_of locks name ≡ mode_with (locks_at old key) lock name)
+IsLockedAs old new key lock (Err NoDescriptor) = (length old ≤ key) × (new ≡ old)
+IsLockedAs old new key lock (Err NoName) =
+    (key < length old) × (length lock.name ≡ 0) × (new ≡ old)
+IsLockedAs old new key lock (Err lock_faults.Memory) = new ≡ old
 
 -- the descriptor may stand after those of the table
 pub record TakesNext (table : List Descriptor) (d : Descriptor) : Type 0 where

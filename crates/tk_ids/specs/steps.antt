@@ -3,3 +3,4 @@ pub mod IdSegments
 pub mod LentSegments
 pub mod Answer
 pub mod Table
+pub mod Locks

@@ -2,6 +2,7 @@
 ghost use Rattle.std.specs.Prelude.{◌≡◌, IfOk};
 
 use crate::ids::UniqueId;
+use crate::locks::Locks;
 use crate::texts::Text;
 use std::alloc::AllocError;
 
@@ -43,6 +44,8 @@ pub struct Descriptor {
     pub name: Text,
     /// Whether it is a test, a container, or both.
     pub dtype: DType,
+    /// The locks that it declares. One that is registered as an engine runs declares none.
+    pub locks: Locks,
 }
 
 impl Descriptor {
@@ -57,6 +60,7 @@ impl Descriptor {
             id: self.id.try_clone()?,
             name: self.name.try_clone()?,
             dtype: self.dtype,
+            locks: self.locks.try_clone()?,
         })
     }
 }

@@ -3,19 +3,20 @@ ghost use Rattle.std.specs.Prelude.{◌≡◌, ◌↔◌, ℕ, List, [], length,
 ghost use Rattle.std.specs.Option.{option_copied};
 ghost use Rattle.std.specs.Slice.Iter.{iter_rest};
 ghost use Rattle.tk_ids.specs.declared.tables.TheConstants.{MAX_DESCRIPTORS};
-ghost use Rattle.tk_ids.specs.FaultTexts.{table_fault_text};
+ghost use Rattle.tk_ids.specs.FaultTexts.{table_fault_text, lock_fault_text};
 
 use crate::descriptors::{DType, Descriptor};
 use crate::id_faults::IdFault;
 use crate::id_texts::IdText;
 use crate::ids::UniqueId;
+use crate::locks::{Lock, LockMode, Locks};
 use crate::segments::Segment;
 use crate::texts::Text;
 use indexmap::IndexMap;
 use std::alloc::{AllocError, AllocFailed, Global};
 use std::error::Error;
 use std::marker::Model;
-use std::{fmt, slice};
+use std::{fmt, mem, slice};
 
 /// Why a table refuses a descriptor.
 #[derive(Clone, Copy, Debug, PartialEq, Eq)]
@@ -68,6 +69,41 @@ impl From<AllocError> for TableFault {
     }
 }
 
+/// Why a table refuses a lock.
+#[derive(Clone, Copy, Debug, PartialEq, Eq)]
+pub enum LockFault {
+    /// The table has no descriptor with the key.
+    NoDescriptor,
+    /// The lock's name is empty.
+    NoName,
+    /// A request for memory was refused.
+    Memory,
+}
+
+impl fmt::Display for LockFault {
+    ghost output = { λ fault. Some (lock_fault_text fault) };
+
+    fn fmt<W: fmt::Write>(&self, f: &mut fmt::Formatter<W>) -> fmt::Result {
+        match self {
+            LockFault::NoDescriptor => f.write_str("no such descriptor"),
+            LockFault::NoName => f.write_str("lock has no name"),
+            LockFault::Memory => f.write_str("out of memory"),
+        }
+    }
+}
+
+impl Error for LockFault {}
+
+impl From<AllocError> for LockFault {
+    ghost use Rattle.tk_ids.specs.declared.tables.LockFault.TheVariants.{Memory};
+
+    ghost from_gives = { λ _ e. e ≡ Memory };
+
+    fn from(_: AllocError) -> LockFault {
+        LockFault::Memory
+    }
+}
+
 /// The most descriptors that a table may have.
 pub const MAX_DESCRIPTORS: usize = 65_536;
 
@@ -88,16 +124,19 @@ impl Model for Table {
 
     ghost Value = { List Descriptor };
 
-    ghost use Rattle.tk_ids.specs.Table.{IsKept};
+    ghost use Rattle.tk_ids.specs.Table.{IsKept, HasParents, HaveLocks};
 
     ghost view = { λ t. values t.by_text };
 
     ghost invariant = { λ t. AllByRecursion IsKept t.by_text.entries
-        × (length t.by_text.entries ≤ MAX_DESCRIPTORS) };
+        × (length t.by_text.entries ≤ MAX_DESCRIPTORS)
+        × HasParents (values t.by_text) × HaveLocks (values t.by_text) };
 }
 
 impl Table {
-    ghost use Rattle.tk_ids.specs.Table.{ids_of, HasId, AreDifferent, child_id, addition, IsAddedAs, HasParent, IsInsertedAs};
+    ghost use Rattle.tk_ids.specs.Table.{ids_of, HasId, AreDifferent, child_id, addition, IsAddedAs, HasParent, HasParents, HaveLocks, IsInsertedAs, IsLockedAs, locks_at, with_locks};
+    ghost use Rattle.tk_ids.specs.Locks.{AreLocks};
+    ghost use Rattle.tk_ids.specs.declared.locks.Lock.{Lock};
     ghost use Rattle.tk_ids.specs.steps.Table.{IsChildId, IsFreeAs, IsInsertableAs};
     ghost use Rattle.tk_ids.specs.IdText.{SegmentView, IsId, id_text};
     ghost use Rattle.tk_ids.specs.Answer.{IsMadeOf};
@@ -180,6 +219,21 @@ impl Table {
         }
     }
 
+    /// Shows what holds of each table: of each id that isn't a root's, the one above it has a lower
+    /// key.
+    pub fn shows_parents(&self)
+        ensures { HasParents self.now }
+    {
+        let _entries = &self.by_text;
+    }
+
+    /// Shows what holds of each table: the locks of its descriptors are in their order.
+    pub fn shows_locks(&self)
+        ensures { HaveLocks self.now }
+    {
+        let _entries = &self.by_text;
+    }
+
     // Makes the id of a child of this parent, or of a root; nothing where there is no such parent.
     fn id_below(
         &self,
@@ -220,11 +274,13 @@ impl Table {
 
     // Puts a descriptor with a new id at the end.
     fn push(&mut self, descriptor: Descriptor) -> Result<(), AllocError>
+        requires parent { HasParent self.old descriptor.id }
         requires absent { ¬ HasId self.old descriptor.id }
         requires room { length self.old < MAX_DESCRIPTORS }
         ensures ok { OnOk result (self.new ≡ self.old ++ descriptor ∷ []) }
         ensures err { OnErr result (self.new ≡ self.old) }
     {
+        descriptor.locks.shows_order();
         let text = descriptor.id.shared_text()?;
         self.by_text.insert(text, descriptor)?;
         Ok(())
@@ -265,7 +321,12 @@ impl Table {
         self.check_free(&id)?;
         let name = Text::copy(alloc, name)?;
         let key = self.len() as u32;
-        self.push(Descriptor { id, name, dtype })?;
+        self.push(Descriptor {
+            id,
+            name,
+            dtype,
+            locks: Locks::new(),
+        })?;
         Ok(key)
     }
 
@@ -326,5 +387,66 @@ impl Table {
         ensures err { OnErr result (self.new ≡ self.old) }
     {
         self.push(descriptor)
+    }
+
+    // Gives the descriptor with this key other locks, and returns those that it had.
+    fn replace_locks(&mut self, key: u32, locks: Locks) -> Locks
+        requires { key < length self.old }
+        ensures before { result ≡ locks_at self.old key }
+        ensures after { self.new ≡ with_locks self.old key locks }
+    {
+        locks.shows_order();
+        let Some(descriptor) = self.by_text.get_index_mut(key as usize) else {
+            return locks;
+        };
+        mem::replace(&mut descriptor.locks, locks)
+    }
+
+    /// Adds a lock to the descriptor with this key. Where it has one of this name, the stronger of
+    /// the two modes stays.
+    ///
+    /// # Errors
+    /// The first fault in the order of `LockFault`. The table is then unchanged.
+    pub fn lock(
+        &mut self,
+        alloc: Global,
+        key: u32,
+        name: &str,
+        mode: LockMode,
+    ) -> Result<(), LockFault>
+        ensures { IsLockedAs self.old self.new key
+            (record { name = name.now; mode = mode }) result }
+    {
+        if key as usize >= self.len() {
+            return Err(LockFault::NoDescriptor);
+        }
+        if name.is_empty() {
+            return Err(LockFault::NoName);
+        }
+        let name = Text::copy(alloc, name)?;
+        let mut locks = self.replace_locks(key, Locks::new());
+        let added = locks.add(alloc, Lock { name, mode });
+        let _none = self.replace_locks(key, locks);
+        added?;
+        Ok(())
+    }
+
+    /// Puts a lock after those of the descriptor with this key. Unlike [`Table::lock`], it doesn't
+    /// look for its place: the caller knows that its name comes after all of theirs.
+    ///
+    /// # Errors
+    /// `AllocError`. The table is then unchanged.
+    pub fn push_lock(&mut self, alloc: Global, key: u32, lock: Lock) -> Result<(), AllocError>
+        requires known { key < length self.old }
+        requires order { AreLocks (locks_at self.old key ++ lock ∷ []) }
+        ensures ok { OnOk result (self.new ≡
+            with_locks self.old key (locks_at self.old key ++ lock ∷ [])) }
+        ensures err { OnErr result (self.new ≡ self.old) }
+    {
+        let mut locks = self.replace_locks(key, Locks::new());
+        let pushed = locks.push(alloc, lock);
+        let _none = self.replace_locks(key, locks);
+        pushed?;
+        Ok(())
     }
 }

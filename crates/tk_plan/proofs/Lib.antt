@@ -18,3 +18,5 @@ pub mod TableDescriptors
 pub mod ParentIds
 pub mod Relabels
 pub mod Numberings
+pub mod LockOrder
+pub mod LocksByName

@@ -3,6 +3,7 @@ use Rattle.std.specs.Prelude.{◌≡◌, ℕ, List, [], ◌∷◌, ◌++◌, Som
 use Rattle.tk_ids.specs.IdText.{SegmentView}
 use Rattle.tk_ids.specs.declared.descriptors.Descriptor.{Descriptor}
 use Rattle.tk_plan.specs.declared.trees.nodes.Node.{Node}
+use Rattle.tk_plan.specs.DeclaredLocks.{declared_locks}
 use Rattle.tk_plan.specs.Trees.{Tree, tree, Forest, no_trees, more}
 
 -- The ids in preorder. A node's id is its parent's with its segment at the end.
@@ -14,8 +15,10 @@ abbrev mutual
   ids_below above no_trees = []
   ids_below above (more t f) = ids above t ++ ids_below above f
 
+-- the descriptor of a static node, with the locks that it declares
 abbrev pub descriptor : List SegmentView → Node → Descriptor
-descriptor id n = record { id = id; name = n.name; dtype = n.dtype }
+descriptor id n =
+    record { id = id; name = n.name; dtype = n.dtype; locks = declared_locks n }
 
 -- the descriptor of a static node, and none of a dynamic one
 abbrev pub descriptor_in : List SegmentView → Node → List Descriptor

@@ -14,6 +14,7 @@ pub mod CuttingSteps
 pub mod Keys
 pub mod Numbers
 pub mod Known
+pub mod DeclaredLocks
 pub mod Ids
 pub mod Parents
 pub mod Planned

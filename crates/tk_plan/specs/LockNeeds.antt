@@ -1,10 +1,12 @@
 -- What the nodes of a unit ask of the resources.
-use Rattle.std.specs.Prelude.{◌≡◌, ℕ, suc, ◌==◌, ◌<◌, List, [], ◌∷◌, Bool, true, false, Option}
+use Rattle.std.specs.Prelude.{◌≡◌, ℕ, suc, ◌==◌, ◌<◌, List, [], ◌∷◌, Bool, Option}
 use Rattle.std.specs.Prelude.{Some, None, if◌then◌else◌, codes, option_map}
 use Rattle.std.specs.Str.{bytes_eq}
+use Rattle.tk_ids.specs.declared.locks.Lock.{Lock}
+use Rattle.tk_ids.specs.declared.locks.LockMode.{LockMode}
+use Rattle.tk_ids.specs.declared.locks.LockMode.TheVariants.{Read, ReadWrite}
 use Rattle.tk_locks.specs.Needs.{Access, nothing, reads, writes, access}
 use Rattle.tk_locks.specs.NeedView.{NeedView}
-use Rattle.tk_plan.specs.declared.trees.nodes.Lock.{Lock}
 use Rattle.tk_plan.specs.declared.trees.nodes.Node.{Node}
 
 -- where a key stands in the list; `global` isn't there, and is resource 0 before all others
@@ -25,10 +27,10 @@ over reads reads = reads
 over reads nothing = reads
 over writes b = writes
 
--- a write where it is true, else a read
-abbrev pub access_for : Bool → Access
-access_for true = writes
-access_for false = reads
+-- what a lock asks of its resource
+abbrev pub access_for : LockMode → Access
+access_for Read = reads
+access_for ReadWrite = writes
 
 -- an ask of one resource, and nothing of any other
 abbrev pub at_resource : Option ℕ → Access → ℕ → Access
@@ -39,12 +41,17 @@ at_resource (Some k) a r = if k == r then a else nothing
 abbrev pub lock_asks : List (List ℕ) → List Lock → ℕ → Access
 lock_asks keys [] r = nothing
 lock_asks keys (l ∷ ls) r =
-    over (at_resource (resource keys l.key) (access_for l.writes) r) (lock_asks keys ls r)
+    over (at_resource (resource keys l.name) (access_for l.mode) r) (lock_asks keys ls r)
 
--- an isolated node writes resource 0
+-- an isolated node holds resource 0 for writing, any other for reading
+abbrev pub global_mode : Bool → LockMode
+global_mode is_isolated = if is_isolated then ReadWrite else Read
+
+-- what a node asks of a resource
 abbrev pub node_asks : List (List ℕ) → Node → ℕ → Access
 node_asks keys n r =
-    over (at_resource (Some 0) (access_for n.is_isolated) r) (lock_asks keys n.locks r)
+    over (at_resource (Some 0) (access_for (global_mode n.is_isolated)) r)
+    (lock_asks keys n.locks r)
 
 -- what some nodes together ask of a resource
 abbrev pub nodes_ask : List (List ℕ) → List Node → ℕ → Access

@@ -10,6 +10,6 @@ mod units;
 pub use plans::Plan;
 pub use scripts::counts::count_events;
 pub use scripts::steps::{Act, Step};
-pub use trees::nodes::{Entries, Files, Lock, Locks, Node, NumberedNode};
+pub use trees::nodes::{Entries, Files, Node, NodeLocks, NumberedNode};
 pub use units::needs::MAX_KEYS;
 pub use units::unit_trees::UnitTree;

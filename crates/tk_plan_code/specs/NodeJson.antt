@@ -6,12 +6,12 @@ use Rattle.serde_json.specs.Data.{Members, no_members, put}
 use Rattle.serde_json.specs.View.{items_of}
 use Rattle.tk_ids.specs.declared.descriptors.DType.{DType}
 use Rattle.tk_ids.specs.declared.descriptors.DType.TheVariants.{Container, Test, Both}
+use Rattle.tk_ids.specs.declared.locks.LockMode.{LockMode}
+use Rattle.tk_ids.specs.declared.locks.LockMode.TheVariants.{Read, ReadWrite}
 use Rattle.tk_events.specs.declared.statuses.Status.{Status}
 use Rattle.tk_events.specs.declared.statuses.Status.TheVariants.{Successful, Aborted, Failed}
 use Rattle.tk_plan_code.specs.declared.modes.ExecutionMode.{ExecutionMode}
 use Rattle.tk_plan_code.specs.declared.modes.ExecutionMode.TheVariants.{SameThread, Concurrent}
-use Rattle.tk_plan_code.specs.declared.modes.LockMode.{LockMode}
-use Rattle.tk_plan_code.specs.declared.modes.LockMode.TheVariants.{Read, ReadWrite}
 use Rattle.tk_plan_code.specs.declared.plan_nodes.PlanLock.{PlanLock}
 use Rattle.tk_plan_code.specs.declared.plan_nodes.PlanNode.{PlanNode}
 use Rattle.tk_plan_code.specs.declared.plan_nodes.PlanNode.TheOpen.{PlanNode-F}

@@ -11,5 +11,5 @@ pub mod node_values;
 mod plan_nodes;
 mod words;
 
-pub use modes::{ExecutionMode, LockMode};
+pub use modes::ExecutionMode;
 pub use plan_nodes::{PlanLock, PlanNode};

@@ -8,12 +8,3 @@ pub enum ExecutionMode {
     /// Maybe beside its siblings.
     Concurrent,
 }
-
-/// What a lock admits beside it. JUnit: `ExclusiveResource.LockMode`.
-#[derive(Clone, Copy, Debug, PartialEq, Eq)]
-pub enum LockMode {
-    /// Others that read.
-    Read,
-    /// Nobody else.
-    ReadWrite,
-}

@@ -3,10 +3,10 @@ ghost use Rattle.std.specs.Prelude.{◌≡◌, ◌++◌, ◌∷◌, [], true, So
 ghost use Rattle.tk_ids.specs.declared.descriptors.DType.TheVariants.{Container, Test, Both};
 ghost use Rattle.tk_plan_code.specs.NodeViews.{node_view, plain, pairs_of, text_of};
 
-use crate::modes::{ExecutionMode, LockMode};
+use crate::modes::ExecutionMode;
 use std::alloc::{AllocError, Global};
 use tk_events::Status;
-use tk_ids::DType;
+use tk_ids::{DType, LockMode};
 
 /// A lock that a node asks for.
 #[derive(Clone, Copy, Debug)]

@@ -2,9 +2,8 @@
 ghost use Rattle.std.specs.Prelude.{◌≡◌};
 ghost use Rattle.tk_plan_code.specs.NodeJson as NodeJson;
 
-use crate::modes::LockMode;
 use tk_events::Status;
-use tk_ids::DType;
+use tk_ids::{DType, LockMode};
 
 /// Gives the word of a type in a plan's text.
 pub(crate) fn dtype_word(dtype: DType) -> &'static str

@@ -9,7 +9,7 @@ use Rattle.std.specs.List.{list_any, list_all, count_by}
 use Rattle.tk_ids.specs.IdText.{SegmentView}
 use Rattle.tk_ids.specs.declared.descriptors.Descriptor.{Descriptor}
 use Rattle.tk_ids.specs.declared.tables.TableFault.TheVariants.{Twice, Full}
-use Rattle.tk_plan.specs.declared.trees.nodes.Lock.{Lock}
+use Rattle.tk_ids.specs.declared.locks.Lock.{Lock}
 use Rattle.tk_plan.specs.declared.trees.nodes.Node.{Node}
 use Rattle.tk_plan.specs.Ids.{descriptor, descriptor_in}
 use Rattle.tk_plan.specs.Keys.{note_key, note_locks, lock_keys}
@@ -99,7 +99,7 @@ module _ (before : List Node) (earlier : List SegmentView) (a : Addition) where
 
 note_locks-append : (keys : List (List ℕ)) (a b : List Lock) → note_locks keys (a ++ b) ≡ note_locks (note_locks keys a) b
 note_locks-append keys [] b = refl
-note_locks-append keys (l ∷ ls) b = note_locks-append (note_key keys l.key) ls b
+note_locks-append keys (l ∷ ls) b = note_locks-append (note_key keys l.name) ls b
 
 pub lock_keys-next : (before : List Node) (n : Node) → lock_keys (before ++ n ∷ []) ≡ note_locks (lock_keys before) n.locks
 lock_keys-next before n =

@@ -6,7 +6,7 @@ use Rattle.serde_json.specs.Data.{Data}
 use Rattle.serde_json.specs.Find.{get}
 use Rattle.tk_ids.specs.IdText.{SegmentView}
 use Rattle.tk_plan.specs.declared.trees.nodes.Node.{Node}
-use Rattle.tk_plan.specs.declared.trees.nodes.Lock.{Lock}
+use Rattle.tk_ids.specs.declared.locks.Lock.{Lock}
 use Rattle.tk_plan.specs.Trees.{Tree, tree, Forest, no_trees, more}
 use Rattle.tk_plan_json_members.specs.Checks.{member_at, item_at}
 use Rattle.tk_plan_json_members.specs.Contents.{json_text, json_optional, json_truth, json_dtype}

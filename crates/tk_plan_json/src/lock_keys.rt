@@ -4,8 +4,7 @@ ghost use Rattle.tk_plan.specs.Keys.{note_key, note_locks};
 
 use indexmap::IndexSet;
 use std::alloc::{AllocError, Global};
-use tk_ids::Text;
-use tk_plan::Lock;
+use tk_ids::{Lock, Text};
 
 fn note(alloc: Global, keys: &mut IndexSet<Text>, key: &str) -> Result<(), AllocError>
     ensures { OnOk result (keys.new.keys ≡ note_key keys.old.keys key.now) }
@@ -25,7 +24,7 @@ pub(crate) fn note_all(
     ensures { OnOk result (keys.new.keys ≡ note_locks keys.old.keys locks.now) }
 {
     for lock in locks {
-        note(alloc, keys, lock.key.as_str())?;
+        note(alloc, keys, lock.name.as_str())?;
     }
     Ok(())
 }

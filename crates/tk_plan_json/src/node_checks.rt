@@ -24,8 +24,8 @@ use crate::node_members::NodeMembers;
 use crate::read_nodes::{Checked, Named, ReadNodes};
 use crate::siblings::Siblings;
 use std::alloc::Global;
-use tk_ids::{IdFault, MAX_DESCRIPTORS, Segment, TableFault, UniqueId};
-use tk_plan::{Lock, MAX_KEYS, Node};
+use tk_ids::{IdFault, Lock, MAX_DESCRIPTORS, Segment, TableFault, UniqueId};
+use tk_plan::{MAX_KEYS, Node};
 use tk_plan_json_members::PlanFault;
 use tk_plan_json_members::member_values::TwoTexts;
 

@@ -12,7 +12,7 @@ use crate::node_members::NodeMembers;
 use serde_json::Value;
 use std::alloc::Global;
 use tk_ids::{DType, Text};
-use tk_plan::{Files, Locks};
+use tk_plan::{Files, NodeLocks};
 use tk_plan_json_members::PlanFault;
 use tk_plan_json_members::file_members::files_member;
 use tk_plan_json_members::json_members::{
@@ -38,7 +38,7 @@ pub(crate) struct Heading<'v> {
 pub(crate) struct Concurrency {
     pub is_concurrent: bool,
     pub is_isolated: bool,
-    pub locks: Locks,
+    pub locks: NodeLocks,
 }
 
 /// What the members `skip`, `result`, `entries` and `files` of a node say.
@@ -201,7 +201,7 @@ impl Concurrency {
         Concurrency {
             is_concurrent: false,
             is_isolated: false,
-            locks: Locks::new(Vec::new(alloc)),
+            locks: NodeLocks::new(Vec::new(alloc)),
         }
     }
 }

@@ -28,14 +28,23 @@ use tk_plan_json_members::json_paths::JsonPath;
 use tk_plan_json_members::path_texts::member_path;
 
 /// Puts the descriptor of a static node at the end, or counts a dynamic node.
-fn add_descriptor(read: &mut ReadNodes, node: &Node, id: UniqueId) -> Result<(), AllocError>
+fn add_descriptor(
+    alloc: Global,
+    read: &mut ReadNodes,
+    node: &Node,
+    id: UniqueId,
+) -> Result<(), AllocError>
     requires { read.old.dynamics ≤ MAX_DESCRIPTORS }
     ensures { OnOk result (IsDescribed read.old read.new node.now id) }
 {
     if node.is_static {
-        let name = node.name.try_clone()?;
-        let dtype = node.dtype;
-        read.descriptors.push(Descriptor { id, name, dtype })?;
+        let descriptor = Descriptor {
+            id,
+            name: node.name.try_clone()?,
+            dtype: node.dtype,
+            locks: node.declared_locks(alloc)?,
+        };
+        read.descriptors.push(descriptor)?;
     } else {
         read.dynamics += 1;
     }
@@ -43,11 +52,11 @@ fn add_descriptor(read: &mut ReadNodes, node: &Node, id: UniqueId) -> Result<(),
 }
 
 /// Puts a node at the end.
-fn add_node(read: &mut ReadNodes, node: Node, id: UniqueId) -> Result<(), AllocError>
+fn add_node(alloc: Global, read: &mut ReadNodes, node: Node, id: UniqueId) -> Result<(), AllocError>
     requires { read.old.dynamics ≤ MAX_DESCRIPTORS }
     ensures { OnOk result (IsAdded read.old read.new node id) }
 {
-    let described = add_descriptor(read, &node, id);
+    let described = add_descriptor(alloc, read, &node, id);
     // Nodes without a descriptor are given up, so the node may follow in any case.
     // It gets its number when all nodes were read, and its span when those below it were.
     read.nodes.push(NumberedNode {
@@ -59,13 +68,18 @@ fn add_node(read: &mut ReadNodes, node: Node, id: UniqueId) -> Result<(), AllocE
 }
 
 /// Puts a node that other nodes stand below at the end. Answers its id.
-fn add_parent(read: &mut ReadNodes, node: Node, id: UniqueId) -> Result<UniqueId, AllocError>
+fn add_parent(
+    alloc: Global,
+    read: &mut ReadNodes,
+    node: Node,
+    id: UniqueId,
+) -> Result<UniqueId, AllocError>
     requires { read.old.dynamics ≤ MAX_DESCRIPTORS }
     ensures added { OnOk result (IsAdded read.old read.new node id) }
     ensures id { IfOk result (λ i. i ≡ id) }
 {
     let copied = id.try_clone();
-    add_node(read, node, id)?;
+    add_node(alloc, read, node, id)?;
     copied
 }
 
@@ -84,10 +98,10 @@ fn start_node(
     let checked = check_node(alloc, read, siblings, node_input)?;
     // Most nodes are leaves, and only nodes below one need its id once more.
     if checked.is_leaf {
-        add_node(read, checked.node, checked.id)?;
+        add_node(alloc, read, checked.node, checked.id)?;
         return Ok(None);
     }
-    Ok(Some(add_parent(read, checked.node, checked.id)?))
+    Ok(Some(add_parent(alloc, read, checked.node, checked.id)?))
 }
 
 /// Lets the node at `at` span all nodes from there to the last one.

@@ -1,5 +1,5 @@
 -- What the members of a node say, where nothing is wrong with them.
-use Rattle.std.specs.Prelude.{ℕ, ◌||◌, ◌++◌, List, [], ◌∷◌, Bool, true, false, not, Option, Some}
+use Rattle.std.specs.Prelude.{ℕ, ◌||◌, ◌++◌, List, [], ◌∷◌, Bool, true, false, Option, Some}
 use Rattle.std.specs.Prelude.{None, option_and_then, if◌then◌else◌, map, codes}
 use Rattle.std.specs.List.{list_any}
 use Rattle.std.specs.Str.{bytes_eq}
@@ -11,9 +11,11 @@ use Rattle.serde_json.specs.Find.{get}
 use Rattle.tk_ids.specs.IdText.{SegmentView}
 use Rattle.tk_ids.specs.declared.descriptors.DType.{DType}
 use Rattle.tk_ids.specs.declared.descriptors.DType.TheVariants.{Container, Test, Both}
+use Rattle.tk_ids.specs.declared.locks.Lock.{Lock}
+use Rattle.tk_ids.specs.declared.locks.LockMode.{LockMode}
+use Rattle.tk_ids.specs.declared.locks.LockMode.TheVariants.{Read, ReadWrite}
 use Rattle.tk_events.specs.declared.statuses.Status.{Status}
 use Rattle.tk_events.specs.declared.statuses.Status.TheVariants.{Successful, Aborted, Failed}
-use Rattle.tk_plan.specs.declared.trees.nodes.Lock.{Lock}
 use Rattle.tk_plan_json_members.specs.Checks.{list_of}
 
 -- a text that has to be there
@@ -61,14 +63,17 @@ abbrev pub json_concurrent : Option Data → Bool
 json_concurrent (Some (string s)) = bytes_eq s (codes "concurrent")
 json_concurrent _ = false
 
--- a lock writes, unless its mode is `read`
-abbrev pub json_writes : Option Data → Bool
-json_writes (Some (string s)) = not (bytes_eq s (codes "read"))
-json_writes _ = true
+-- a lock is for writing, unless its mode is `read`
+abbrev pub json_lock_mode : Option Data → LockMode
+json_lock_mode (Some (string s)) = if bytes_eq s (codes "read") then Read else ReadWrite
+json_lock_mode _ = ReadWrite
 
 abbrev pub json_lock : Data → Lock
 json_lock d =
-    record { key = json_text (get (codes "key") d); writes = json_writes (get (codes "mode") d) }
+    record {
+      name = json_text (get (codes "key") d);
+      mode = json_lock_mode (get (codes "mode") d);
+    }
 
 abbrev pub json_locks : Option Data → List Lock
 json_locks d = map json_lock (listed d)

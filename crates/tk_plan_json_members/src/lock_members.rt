@@ -6,7 +6,7 @@ ghost use Rattle.tk_plan_json_members.specs.Checks.{array_of, row};
 ghost use Rattle.tk_plan_json_members.specs.Rows.{lock_mode_row, locks_row, lock as is_lock};
 ghost use Rattle.tk_plan_json_members.specs.Pointers.{pointer, viewed, wrong_at};
 ghost use Rattle.tk_plan_json_members.specs.Answers.{Reads};
-ghost use Rattle.tk_plan_json_members.specs.Contents.{json_writes, json_lock, json_locks};
+ghost use Rattle.tk_plan_json_members.specs.Contents.{json_lock_mode, json_lock, json_locks};
 
 use crate::faults::PlanFault;
 use crate::json_members::{check_members, text_member};
@@ -15,19 +15,20 @@ use crate::json_values::items_in;
 use crate::path_texts::{member_path, wrong_member, wrong_value};
 use serde_json::Value;
 use std::alloc::Global;
-use tk_plan::{Lock, Locks};
+use tk_ids::{Lock, LockMode};
+use tk_plan::NodeLocks;
 
-/// Whether the lock writes.
-fn lock_mode_member(alloc: Global, at: JsonPath<'_>, object: &Value) -> Result<bool, PlanFault>
+/// Reads the member `mode` of a lock, which is for writing where it is absent.
+fn lock_mode_member(alloc: Global, at: JsonPath<'_>, object: &Value) -> Result<LockMode, PlanFault>
     ensures { Reads (row (pointer at.entry) (view object.now) lock_mode_row)
-        (λ w. w ≡ json_writes (get (codes "mode") (view object.now))) result }
+        (λ m. m ≡ json_lock_mode (get (codes "mode") (view object.now))) result }
 {
     let Some(value) = object.get("mode") else {
-        return Ok(true);
+        return Ok(LockMode::ReadWrite);
     };
     match value.as_str() {
-        Some("read") => Ok(false),
-        Some("read_write") => Ok(true),
+        Some("read") => Ok(LockMode::Read),
+        Some("read_write") => Ok(LockMode::ReadWrite),
         _ => Err(wrong_member(alloc, at, "mode")),
     }
 }
@@ -37,12 +38,12 @@ fn lock(alloc: Global, at: JsonPath<'_>, value: &Value) -> Result<Lock, PlanFaul
         (λ l. l ≡ json_lock (view value.now)) result }
 {
     check_members(alloc, at, value, &["key", "mode"])?;
-    let key = text_member(alloc, at, "key", value.get("key"))?;
-    let writes = lock_mode_member(alloc, at, value)?;
-    Ok(Lock { key, writes })
+    let name = text_member(alloc, at, "key", value.get("key"))?;
+    let mode = lock_mode_member(alloc, at, value)?;
+    Ok(Lock { name, mode })
 }
 
-fn locks(alloc: Global, at: &str, value: &Value) -> Result<Locks, PlanFault>
+fn locks(alloc: Global, at: &str, value: &Value) -> Result<NodeLocks, PlanFault>
     ensures { Reads (array_of is_lock at.now (view value.now))
         (λ l. l ≡ json_locks (Some (view value.now))) result }
 {
@@ -53,7 +54,7 @@ fn locks(alloc: Global, at: &str, value: &Value) -> Result<Locks, PlanFault>
     for (index, item) in items.iter().enumerate() {
         locks.push(lock(alloc, JsonPath::Item(at, index), item)?)?;
     }
-    Ok(Locks::new(locks))
+    Ok(NodeLocks::new(locks))
 }
 
 /// Reads the member `locks` of a node, which has none where it is absent.
@@ -65,7 +66,7 @@ pub fn locks_member(
     alloc: Global,
     at: JsonPath<'_>,
     value: Option<&Value>,
-) -> Result<Locks, PlanFault>
+) -> Result<NodeLocks, PlanFault>
     ensures { Reads (wrong_at at.entry locks_row value.entry)
         (λ l. l ≡ json_locks (viewed value.entry)) result }
 {
@@ -74,6 +75,6 @@ pub fn locks_member(
             let path = member_path(alloc, at, "locks")?;
             locks(alloc, &path, value)
         }
-        None => Ok(Locks::new(Vec::new(alloc))),
+        None => Ok(NodeLocks::new(Vec::new(alloc))),
     }
 }

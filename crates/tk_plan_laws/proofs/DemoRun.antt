@@ -34,7 +34,7 @@ use Rattle.tk_plan_laws.proofs.Samples.{demo, demo_table, demo_counts, demo_line
 
 unit_three : played demo 7 131072 [] (script_of (forest demo) 3)
     ≡ event Started 6 10 Nothing
-    ∷ event Dynamic 131072 11 (Described (record { id = pair (codes "engine") (codes "demo") ∷ pair (codes "class") (codes "D") ∷ pair (codes "dyn") (codes "1") ∷ []; name = codes "one"; dtype = Test }))
+    ∷ event Dynamic 131072 11 (Described (record { id = pair (codes "engine") (codes "demo") ∷ pair (codes "class") (codes "D") ∷ pair (codes "dyn") (codes "1") ∷ []; name = codes "one"; dtype = Test; locks = [] }))
     ∷ event Started 131072 12 Nothing
     ∷ event Finished 131072 13 (Outcome Successful None)
     ∷ event Finished 6 14 (Outcome Successful None)

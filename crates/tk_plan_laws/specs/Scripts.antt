@@ -24,6 +24,7 @@ use Rattle.std.specs.Prelude.{
   slice_get,
 }
 use Rattle.tk_ids.specs.IdText.{SegmentView}
+use Rattle.tk_ids.specs.Table.{unlocked}
 use Rattle.tk_ids.specs.declared.descriptors.Descriptor.{Descriptor}
 use Rattle.tk_ids.specs.Table.{ids_of}
 use Rattle.tk_events.specs.declared.payloads.Payload.{Payload}
@@ -47,7 +48,7 @@ use Rattle.tk_plan.specs.declared.scripts.steps.Step.{Step}
 use Rattle.tk_plan.specs.Trees.{forest}
 use Rattle.tk_plan.specs.Cutting.{before_of, after_of, units_of, script_of, root_script}
 use Rattle.tk_plan.specs.Numbers.{in_order}
-use Rattle.tk_plan.specs.Ids.{ids_below, descriptor}
+use Rattle.tk_plan.specs.Ids.{ids_below}
 use Rattle.tk_plan.specs.Events.{event}
 use Rattle.tk_plan.specs.StepEvents.{kind_of, payload_of}
 use Rattle.tk_queue_session.specs.Emission.{entries_by, registrations}
@@ -71,9 +72,13 @@ id_of (p ∷ ps) (id ∷ ids) k = if p.number == k then id else id_of ps ids k
 abbrev pub id_at : List NumberedNode → ℕ → List SegmentView
 id_at nodes k = id_of nodes (ids_below [] (forest nodes)) k
 
+-- the descriptor with which a dynamic node is registered, which declares no lock
+abbrev pub registered : List SegmentView → Node → Descriptor
+registered id n = unlocked id n.name n.dtype
+
 -- the payload of a step of a node with this id: a registration has its descriptor
 abbrev pub payload_for : Node → List SegmentView → Act → Payload
-payload_for n id a = if is_registration a then Described (descriptor id n) else payload_of n a
+payload_for n id a = if is_registration a then Described (registered id n) else payload_of n a
 
 abbrev pub payload_of_node : Option Node → List SegmentView → Act → Payload
 payload_of_node None id a = Nothing

@@ -8,3 +8,4 @@ pub mod KeyLemmas
 pub mod MaskLemmas
 pub mod AnswerIsUnique
 pub mod ExclusionLemmas
+pub mod SpanKeys

@@ -3,7 +3,8 @@ ghost use Rattle.std.specs.Prelude.{◌≡◌, ℕ, ◌<◌, ◌+◌, true, fals
 ghost use Rattle.tk_query.specs.Exclusive.{IsExclusive};
 ghost use Rattle.tk_query.specs.ExecutionSteps.{step_at};
 ghost use Rattle.tk_query.specs.Fitting.{TellFits};
-ghost use Rattle.tk_query.specs.steps.Holders.{AreEnds, AreFinishes, HasOther, HavePair, IsAnswerOf, IsFirstMet, MeetsNone, holds_any, is_written, meet};
+ghost use Rattle.tk_query.specs.Finishes.{AreFinishes};
+ghost use Rattle.tk_query.specs.steps.Holders.{AreEnds, HasOther, HavePair, IsAnswerOf, IsFirstMet, MeetsNone, holds_any, is_written, meet};
 
 use crate::answers::Exclusive;
 use crate::masks::mask;
@@ -15,7 +16,10 @@ use tk_record::Events;
 
 /// Under the position of each start that of its finish, and 0 where no execution starts that
 /// finishes: a finish never stands at position 0.
-fn finishes_of(alloc: Global, events: &Events) -> Result<Vec<usize>, AllocError>
+///
+/// # Errors
+/// `AllocError` where a request for memory is refused.
+pub fn finishes_of(alloc: Global, events: &Events) -> Result<Vec<usize>, AllocError>
     ensures finishes { IfOk result (λ finishes. AreFinishes events.now finishes.items) }
 {
     // For the proof: no event stands past the end of the record.

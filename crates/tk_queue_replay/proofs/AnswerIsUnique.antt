@@ -9,7 +9,7 @@ use Rattle.tk_record.specs.Recorded.{Recorded}
 use Rattle.tk_record_text.specs.Spelling.{node_line, entry_line}
 use Rattle.tk_record_text.specs.declared.versions.Version.{Version}
 use Rattle.tk_record_text.specs.steps.Reading.{in_line}
-use Rattle.tk_record_text.specs.Text.{with_line_feed, nodes_text, entries_text, AreNodes}
+use Rattle.tk_record_text.specs.Text.{with_line_feed, nodes_text, entries_text}
 use Rattle.tk_record_text.specs.NodeLines.{LacksNode}
 use Rattle.tk_record_text.proofs.Forms.{one_value}
 use Rattle.tk_record_text.proofs.AnswerIsUnique.{same_entry, cons_same, one_nodes}
@@ -22,7 +22,7 @@ use Rattle.tk_queue_core.specs.Limits.{most_workers}
 use Rattle.tk_queue_replay.specs.Replay.{Moment, Stop, Faulty, Refuses, turn_step, after, plays, start, StopsAt}
 use Rattle.tk_queue_replay.specs.Script.{IsCount, workers_line, AreTurns, turns_line}
 use Rattle.tk_queue_replay.specs.steps.Script.{workers_of, turns_of}
-use Rattle.tk_queue_replay.specs.ReplayText.{Scenario, header, TextHead, text_head, IsOwn, AreOwn, scripts_by, input_of, NoCount, NoLineOf, IsBad, IsTextOf, IsPlayed}
+use Rattle.tk_queue_replay.specs.ReplayText.{Scenario, IsReplayVersion, AreListed, header, TextHead, text_head, IsOwn, AreOwn, scripts_by, input_of, NoCount, NoLineOf, IsBad, IsTextOf, IsPlayed}
 use Rattle.tk_queue_replay.specs.Laws.{IsSettled, AnswerIsUnique}
 use Rattle.tk_queue_replay.proofs.ScriptForms.{workers_line_form, turns_line_form, workers_no_feed, turns_no_feed}
 use Rattle.tk_queue_replay.proofs.TextSteps.{turns_begins, entry_begins, scripts_long}
@@ -135,7 +135,7 @@ record AnsweredAt (head : TextHead) (input : List ℕ) (a : Result Recorded Repl
   entries : List Entry
   rest : List ℕ
   prefix : input ≡ nodes_text table ++ (entries_text entries ++ rest)
-  nodes : AreNodes [] table
+  nodes : AreListed table
   own : AreOwn head entries
   tail : Tail head table entries rest
   verdict : Verdict head table entries rest tail a
@@ -161,7 +161,7 @@ agree head t u es fs r s (turned ts last are is) (turned others end those at) a 
 
 one_verdict : (head : TextHead) (input : List ℕ) (a b : Result Recorded ReplayFault) → head.workers ≤ most_workers → AnsweredAt head input a → AnsweredAt head input b → a ≡ b
 one_verdict head input a b few p q =
-    let s = one_nodes [] p.table q.table (entries_text p.entries ++ p.rest) (entries_text q.entries ++ q.rest) p.nodes q.nodes
+    let s = one_nodes [] p.table q.table (entries_text p.entries ++ p.rest) (entries_text q.entries ++ q.rest) p.nodes.0 q.nodes.0 p.nodes.1 q.nodes.1
     (tail_blocks_nodes head p.table p.entries p.rest p.tail p.entries refl) (tail_blocks_nodes head q.table q.entries q.rest q.tail q.entries refl) (sym p.prefix ∙ q.prefix) in
     let m = one_entries head p.entries q.entries p.rest q.rest p.own q.own (tail_blocks_entries head p.table p.entries p.rest p.tail) (tail_blocks_entries head q.table q.entries q.rest q.tail) s.1 in
     agree head p.table q.table p.entries q.entries p.rest q.rest p.tail q.tail a b few s.0 m.0 m.1 p.verdict q.verdict
@@ -169,14 +169,14 @@ one_verdict head input a b few p q =
 -- ---- what an answer says of the input
 
 data Answered (input : List ℕ) (a : Result Recorded ReplayFault) : Type 0 where
-  headless : ((version : Version) (rest : List ℕ) → input ≢ header version ++ rest) → a ≡ Err faults.NoHeader → Answered input a
-  uncounted : (version : Version) (body : List ℕ) → input ≡ header version ++ body → NoCount body → a ≡ Err (faults.BadLine 2) → Answered input a
-  counted : (version : Version) (body rest : List ℕ) (n : ℕ) → input ≡ header version ++ body → IsCount n → body ≡ with_line_feed (workers_line n) ++ rest → AnsweredAt (text_head version n) rest a → Answered input a
+  headless : ((version : Version) (rest : List ℕ) → IsReplayVersion version → input ≢ header version ++ rest) → a ≡ Err faults.NoHeader → Answered input a
+  uncounted : (version : Version) (body : List ℕ) → IsReplayVersion version → input ≡ header version ++ body → NoCount body → a ≡ Err (faults.BadLine 2) → Answered input a
+  counted : (version : Version) (body rest : List ℕ) (n : ℕ) → IsReplayVersion version → input ≡ header version ++ body → IsCount n → body ≡ with_line_feed (workers_line n) ++ rest → AnsweredAt (text_head version n) rest a → Answered input a
 
 -- a whole text, and what its turns come to
 whole_answered : (p : Scenario) (a : Result Recorded ReplayFault) (input : List ℕ) → IsTextOf input p → a ≡ run (scripts_by p.entries p.workers) p.turns 0 (start p.table (length (scripts_by p.entries p.workers))) → Answered input a
 whole_answered p a input is outcome =
-    counted p.version (with_line_feed (workers_line p.workers) ++ (nodes_text p.table ++ (entries_text p.entries ++ with_line_feed (turns_line p.turns)))) (nodes_text p.table ++ (entries_text p.entries ++ with_line_feed (turns_line p.turns))) p.workers is.1 is.0.count refl
+    counted p.version (with_line_feed (workers_line p.workers) ++ (nodes_text p.table ++ (entries_text p.entries ++ with_line_feed (turns_line p.turns)))) (nodes_text p.table ++ (entries_text p.entries ++ with_line_feed (turns_line p.turns))) p.workers is.0.version is.1 is.0.count refl
     (record {
       table = p.table;
       entries = p.entries;
@@ -193,9 +193,9 @@ stopped_answered p input i why is stop =
     whole_answered p (Err (fault_at i why)) input is
     (sym (run_stopped (scripts_by p.entries p.workers) p.turns 0 i (start p.table (length (scripts_by p.entries p.workers))) stop.moment stop.turn why stop.before stop.at stop.stops ∙ ap (λ n. Err (fault_at n why)) (let z : 0 + i ≡ i = omega arith in z)))
 
-bad_answered : (version : Version) (input body : List ℕ) (k : ℕ) → input ≡ header version ++ body → IsBad version body k → Answered input (Err (faults.BadLine k))
-bad_answered version input body k is (inl x) = uncounted version body is x.1 (ap (λ n. Err (faults.BadLine n)) x.0)
-bad_answered version input body k is (inr (n, rest, count, prefix, inl line)) = counted version body rest n is count prefix (record {
+bad_answered : (version : Version) (input body : List ℕ) (k : ℕ) → IsReplayVersion version → input ≡ header version ++ body → IsBad version body k → Answered input (Err (faults.BadLine k))
+bad_answered version input body k old is (inl x) = uncounted version body old is x.1 (ap (λ n. Err (faults.BadLine n)) x.0)
+bad_answered version input body k old is (inr (n, rest, count, prefix, inl line)) = counted version body rest n old is count prefix (record {
   table = line.table;
   entries = line.entries;
   rest = line.rest;
@@ -205,7 +205,7 @@ bad_answered version input body k is (inr (n, rest, count, prefix, inl line)) = 
   tail = bad line.none;
   verdict = ap (λ m. Err (faults.BadLine m)) line.number;
 })
-bad_answered version input body k is (inr (n, rest, count, prefix, inr line)) = counted version body rest n is count prefix (record {
+bad_answered version input body k old is (inr (n, rest, count, prefix, inr line)) = counted version body rest n old is count prefix (record {
   table = line.table;
   entries = line.entries;
   rest = with_line_feed (turns_line line.turns) ++ line.rest;
@@ -221,7 +221,7 @@ answered input (Ok r) s (p, m, is, played, taken) =
     whole_answered p (Ok r) input is (ap (λ (x : Recorded). Ok x) taken ∙ sym (run_played (scripts_by p.entries p.workers) p.turns 0 (start p.table (length (scripts_by p.entries p.workers))) m
     (ap (λ n. plays (scripts_by p.entries p.workers) p.turns (start p.table n)) (scripts_long p.entries p.workers) ∙ played)))
 answered input (Err faults.NoHeader) s none = headless none refl
-answered input (Err (faults.BadLine k)) s (version, body, is, line) = bad_answered version input body k is line
+answered input (Err (faults.BadLine k)) s (version, body, old, is, line) = bad_answered version input body k old is line
 answered input (Err (faults.AfterEnd i)) s (p, is, stop) = stopped_answered p input i Faulty is stop
 answered input (Err (faults.Append i f)) s (p, is, stop) = stopped_answered p input i (Refuses f) is stop
 answered input (Err faults.TooLarge) s p = absurd p
@@ -237,14 +237,14 @@ same_body input v w x y p q = append_cancel_left (header v) x y (sym p ∙ q ∙
 
 both_answered : (input : List ℕ) (a b : Result Recorded ReplayFault) → Answered input a → Answered input b → a ≡ b
 both_answered input a b (headless none p) (headless other q) = p ∙ sym q
-both_answered input a b (headless none p) (uncounted v body is lacks q) = absurd (none v body is)
-both_answered input a b (headless none p) (counted v body rest n is count prefix t) = absurd (none v body is)
-both_answered input a b (uncounted v body is lacks p) (headless none q) = absurd (none v body is)
-both_answered input a b (counted v body rest n is count prefix t) (headless none q) = absurd (none v body is)
-both_answered input a b (uncounted v body is lacks p) (uncounted w other at others q) = p ∙ sym q
-both_answered input a b (uncounted v body is lacks p) (counted w other rest n at count prefix t) = absurd (lacks n rest count (same_body input v w body other is at ∙ prefix))
-both_answered input a b (counted v body rest n at count prefix t) (uncounted w other is lacks p) = absurd (lacks n rest count (same_body input w v other body is at ∙ prefix))
-both_answered input a b (counted v body rest n is count prefix t) (counted w other end m at number begins u) =
+both_answered input a b (headless none p) (uncounted v body old is lacks q) = absurd (none v body old is)
+both_answered input a b (headless none p) (counted v body rest n old is count prefix t) = absurd (none v body old is)
+both_answered input a b (uncounted v body old is lacks p) (headless none q) = absurd (none v body old is)
+both_answered input a b (counted v body rest n old is count prefix t) (headless none q) = absurd (none v body old is)
+both_answered input a b (uncounted v body _ is lacks p) (uncounted w other _ at others q) = p ∙ sym q
+both_answered input a b (uncounted v body _ is lacks p) (counted w other rest n _ at count prefix t) = absurd (lacks n rest count (same_body input v w body other is at ∙ prefix))
+both_answered input a b (counted v body rest n _ at count prefix t) (uncounted w other _ is lacks p) = absurd (lacks n rest count (same_body input w v other body is at ∙ prefix))
+both_answered input a b (counted v body rest n _ is count prefix t) (counted w other end m _ at number begins u) =
     let version = same_version input v w body other is at in
     let s = same_count n m rest end count number (sym prefix ∙ same_body input v w body other is at ∙ begins) in
     one_verdict (text_head v n) rest a b count.1 t (subst (λ (y : Version × ℕ × List ℕ). AnsweredAt (text_head y.0 y.1) y.2 b) (λ i. (sym version i, sym s.0 i, sym s.1 i)) u)

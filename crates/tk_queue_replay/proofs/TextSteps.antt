@@ -30,7 +30,7 @@ use Rattle.tk_queue_core.specs.Limits.{most_workers}
 use Rattle.tk_queue_replay.specs.Script.{IsCount, workers_line, AreTurns, turns_line}
 use Rattle.tk_queue_replay.specs.steps.Script.{workers_of, turns_of}
 use Rattle.tk_queue_replay.specs.Replay.{replay_input, IsReplayed, plays, start}
-use Rattle.tk_queue_replay.specs.ReplayText.{Scenario, header, TextHead, text_head, IsOwn, AreOwn}
+use Rattle.tk_queue_replay.specs.ReplayText.{Scenario, IsReplayVersion, header, TextHead, text_head, IsOwn, AreOwn}
 use Rattle.tk_queue_replay.specs.ReplayText.{scripts_by, input_of, NoCount, IsTextOf, IsPlayed}
 use Rattle.tk_queue_replay.specs.ReplayText.{nodes_fault}
 use Rattle.tk_queue_replay.specs.steps.ReplayText.{IsPlayedAs}
@@ -151,8 +151,8 @@ end_fault head nodes number input entries rest faults.Device f is fault = absurd
 
 -- ---- the whole
 
-pub list_played : (version : Version) (n : ℕ) (input body rest : List ℕ) (fault : ReplayFault) → input ≡ header version ++ body → IsCount n × (body ≡ with_line_feed (workers_line n) ++ rest) → IsListFault (text_head version n) rest fault → IsPlayed input (Err fault)
-list_played version n input body rest (faults.BadLine k) is count fault = (version, body, is, inr (n, rest, count.0, count.1, fault))
+pub list_played : (version : Version) (n : ℕ) (input body rest : List ℕ) (fault : ReplayFault) → IsReplayVersion version × (input ≡ header version ++ body) → IsCount n × (body ≡ with_line_feed (workers_line n) ++ rest) → IsListFault (text_head version n) rest fault → IsPlayed input (Err fault)
+list_played version n input body rest (faults.BadLine k) is count fault = (version, body, is.0, is.1, inr (n, rest, count.0, count.1, fault))
 list_played version n input body rest faults.Memory is count fault = tt
 list_played version n input body rest faults.NoHeader is count fault = absurd fault
 list_played version n input body rest (faults.AfterEnd i) is count fault = absurd fault
@@ -161,13 +161,13 @@ list_played version n input body rest faults.TooLarge is count fault = absurd fa
 list_played version n input body rest faults.Device is count fault = absurd fault
 
 -- the answer where a descriptor's line is bad
-pub nodes_played : (version : Version) (n : ℕ) (input body rest : List ℕ) (fault : NodesFault) → input ≡ header version ++ body → IsCount n × (body ≡ with_line_feed (workers_line n) ++ rest) → IsNodesFault 3 rest fault → IsPlayed input (Err (nodes_fault fault))
+pub nodes_played : (version : Version) (n : ℕ) (input body rest : List ℕ) (fault : NodesFault) → IsReplayVersion version × (input ≡ header version ++ body) → IsCount n × (body ≡ with_line_feed (workers_line n) ++ rest) → IsNodesFault 3 rest fault → IsPlayed input (Err (nodes_fault fault))
 nodes_played version n input body rest (listing.BadLine k) is count bad = list_played version n input body rest (faults.BadLine k) is count (inl (record {
   table = bad.table;
   entries = [];
   rest = 78 ∷ 124 ∷ bad.more;
   prefix = bad.prefix;
-  nodes = bad.fitting;
+  nodes = (bad.fitting, bad.no_lock);
   own = tt;
   none = record {
     node = λ d m _ has takes. bad.none d m has takes;
@@ -178,11 +178,11 @@ nodes_played version n input body rest (listing.BadLine k) is count bad = list_p
 }))
 nodes_played version n input body rest listing.Memory is count bad = tt
 
-pub says : (version : Version) (n : ℕ) (input body rest more last : List ℕ) (table : List Descriptor) (entries : List Entry) (turns : List Turn) → input ≡ header version ++ body → IsCount n × (body ≡ with_line_feed (workers_line n) ++ rest) → IsNodesPrefix rest table more
+pub says : (version : Version) (n : ℕ) (input body rest more last : List ℕ) (table : List Descriptor) (entries : List Entry) (turns : List Turn) → IsReplayVersion version × (input ≡ header version ++ body) → IsCount n × (body ≡ with_line_feed (workers_line n) ++ rest) → IsNodesPrefix rest table more
     → IsEntriesPrefix (text_head version n) more entries last → AreTurns n turns × (last ≡ with_line_feed (turns_line turns)) → IsTextOf input (record { version = version; workers = n; table = table; entries = entries; turns = turns })
 says version n input body rest more last table entries turns is count nodes own ends = (
-  record { count = count.0; nodes = nodes.fitting; own = own.own; turns = ends.0 },
-  is ∙ ap (λ (t : List ℕ). header version ++ t) (count.1 ∙ ap (λ (t : List ℕ). with_line_feed (workers_line n) ++ t) (nodes.prefix ∙ ap (λ (t : List ℕ). nodes_text table ++ t) (own.prefix ∙ ap (λ (t : List ℕ). entries_text entries ++ t) ends.1))),
+  record { version = is.0; count = count.0; nodes = (nodes.fitting, nodes.no_lock); own = own.own; turns = ends.0 },
+  is.1 ∙ ap (λ (t : List ℕ). header version ++ t) (count.1 ∙ ap (λ (t : List ℕ). with_line_feed (workers_line n) ++ t) (nodes.prefix ∙ ap (λ (t : List ℕ). nodes_text table ++ t) (own.prefix ∙ ap (λ (t : List ℕ). entries_text entries ++ t) ends.1))),
 )
 
 pub scripts_long : (entries : List Entry) (n : ℕ) → length (scripts_by entries n) ≡ n

@@ -20,6 +20,7 @@ use Rattle.std.specs.Prelude.{
   Result,
   Ok,
   Err,
+  false,
 }
 use Rattle.std.specs.List.{AllByRecursion}
 use Rattle.std.specs.Io.KnownBytes.{Appends}
@@ -31,7 +32,8 @@ use Rattle.tk_record.specs.Recorded.{Recorded}
 use Rattle.tk_record.specs.Mixing.{IsWorkerOf, of_worker}
 use Rattle.tk_record_text.specs.declared.reading.TheConstants.{MAX_TEXT}
 use Rattle.tk_record_text.specs.declared.versions.Version.{Version}
-use Rattle.tk_record_text.specs.Versions.{HasLineIn, header_of}
+use Rattle.tk_record_text.specs.Versions.{HasLineIn, has_locks, header_of}
+use Rattle.tk_record_text.specs.NodeLines.{DeclareNoLock}
 use Rattle.tk_record_text.specs.Spelling.{node_line, entry_line, IsDescriptor}
 use Rattle.tk_record_text.specs.Text.{with_line_feed, nodes_text, entries_text, AreNodes, text}
 use Rattle.tk_record_text.specs.declared.reading.node_lines.NodesFault.{NodesFault}
@@ -62,6 +64,14 @@ pub record Scenario : Type 0 where
   pub table : List Descriptor
   pub entries : List Entry
   pub turns : List Turn
+
+-- a version of replay texts: one without locks
+abbrev pub IsReplayVersion : Version → Type 0
+IsReplayVersion version = has_locks version ≡ false
+
+-- each of the descriptors has a line, may stand after those before it, and declares no lock
+abbrev pub AreListed : List Descriptor → Type 0
+AreListed table = AreNodes [] table × DeclareNoLock table
 
 -- the header line of a version
 unfoldable pub header : Version → List ℕ
@@ -94,8 +104,9 @@ AreOwn head entries = AllByRecursion (λ e. IsOwn head e) entries
 
 -- the scenario has a text: each part has its lines
 pub record HasReplayText (p : Scenario) : Type 0 where
+  pub version : IsReplayVersion p.version
   pub count : IsCount p.workers
-  pub nodes : AreNodes [] p.table
+  pub nodes : AreListed p.table
   pub own : AreOwn (text_head p.version p.workers) p.entries
   pub turns : AreTurns p.workers p.turns
 
@@ -130,7 +141,7 @@ pub record IsBadLine (head : TextHead) (input : List ℕ) (k : ℕ) : Type 0 whe
   pub entries : List Entry
   pub rest : List ℕ
   pub prefix : input ≡ nodes_text table ++ (entries_text entries ++ rest)
-  pub nodes : AreNodes [] table
+  pub nodes : AreListed table
   pub own : AreOwn head entries
   pub none : NoLineOf head table entries rest
   pub number : k ≡ length table + length entries + 3
@@ -144,7 +155,7 @@ pub record IsLineAfter (head : TextHead) (input : List ℕ) (k : ℕ) : Type 0 w
   pub prefix :
       input ≡ nodes_text table
       ++ (entries_text entries ++ (with_line_feed (turns_line turns) ++ rest))
-  pub nodes : AreNodes [] table
+  pub nodes : AreListed table
   pub own : AreOwn head entries
   pub are : AreTurns head.workers turns
   pub more : rest ≢ []
@@ -179,9 +190,10 @@ IsPlayed input (Ok r) =
     × (plays (scripts_by p.entries p.workers) p.turns (start p.table p.workers) ≡ Some m)
     × (r ≡ m.taken)
 IsPlayed input (Err faults.NoHeader) =
-    (version : Version) (rest : List ℕ) → input ≢ header version ++ rest
+    (version : Version) (rest : List ℕ) → IsReplayVersion version → input ≢ header version ++ rest
 IsPlayed input (Err (faults.BadLine k)) =
-    (version : Version) × (rest : List ℕ) × (input ≡ header version ++ rest) × IsBad version rest k
+    (version : Version) × (rest : List ℕ) × IsReplayVersion version
+    × (input ≡ header version ++ rest) × IsBad version rest k
 IsPlayed input (Err (faults.AfterEnd i)) =
     (p : Scenario) × IsTextOf input p × StopsAt (input_of p) i Faulty
 IsPlayed input (Err (faults.Append i fault)) =

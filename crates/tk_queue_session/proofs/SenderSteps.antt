@@ -140,13 +140,13 @@ all_true : (a b c d : Bool) → a ≡ true → b ≡ true → c ≡ true → d �
 all_true a b c d p q r t = λ i. ((p i && q i) && r i) && t i
 
 -- the next registration may be emitted
-registration_may : (v : PassView) (table : List Descriptor) (worker emitted key stamp : ℕ) (ids : List (List SegmentView)) (d : Descriptor) → IsSender v (fields table worker ids emitted) → key ≡ registered_key worker (length ids)
+registration_may : (v : PassView) (table : List Descriptor) (worker emitted key stamp : ℕ) (ids : List (List SegmentView)) (d : Descriptor) → IsSender v (fields table worker ids emitted) → is_lawful Dynamic (Described d) ≡ true → key ≡ registered_key worker (length ids)
     → length ids < MAX_DESCRIPTORS → MayEmit (length table) worker (sent_of v) (record { kind = Dynamic; key = key; stamp = stamp; payload = Described d })
-registration_may v table worker emitted key stamp ids d h is few =
+registration_may v table worker emitted key stamp ids d h lawful is few =
     let n = count_by (registers worker) (entries_by worker (sent_of v)) in
     let counted : n ≡ length ids = counted_by worker (sent_of v) ∙ sym h.number in
     record {
-      lawful = refl;
+      lawful = lawful;
       known = all_true (ltb 0 worker) _ (nat_lt n MAX_DESCRIPTORS) (key == registered_key worker n)
           (lt-ltb 0 worker h.low) (le-leb worker most_workers h.high) (lt-ltb n MAX_DESCRIPTORS (subst (λ k. k < MAX_DESCRIPTORS) (sym counted) few))
           (eq-eqb key (registered_key worker n) (is ∙ ap (registered_key worker) (sym counted)));
@@ -164,12 +164,12 @@ next_key_is t v table worker emitted ids s h is at =
     at ∙ ap (λ (y : SenderView). registered_key y.worker (registrations y.sent)) (sym is) ∙ ap (registered_key worker) (sym h.number)
 
 pub sender_registers : (v w : PassView) (table : List Descriptor) (worker emitted key stamp : ℕ) (ids : List (List SegmentView)) (d : Descriptor) → IsSender v (fields table worker ids emitted)
-    → key ≡ registered_key worker (length ids) → w ≡ pushed v (entry worker (record { kind = Dynamic; key = key; stamp = stamp; payload = Described d }))
+    → is_lawful Dynamic (Described d) ≡ true → key ≡ registered_key worker (length ids) → w ≡ pushed v (entry worker (record { kind = Dynamic; key = key; stamp = stamp; payload = Described d }))
     → emitted < most_events → length ids < MAX_DESCRIPTORS → IsSender w (fields table worker (ids ++ d.id ∷ []) (emitted + 1))
-sender_registers v w table worker emitted key stamp ids d h is moved room few =
+sender_registers v w table worker emitted key stamp ids d h lawful is moved room few =
     let e : Event = record { kind = Dynamic; key = key; stamp = stamp; payload = Described d } in
     let es = sent_of v in
-    keeps v w table worker emitted ids (ids ++ d.id ∷ []) e h moved (registration_may v table worker emitted key stamp ids d h is few) room
+    keeps v w table worker emitted ids (ids ++ d.id ∷ []) e h moved (registration_may v table worker emitted key stamp ids d h lawful is few) room
     (λ k. ⊎_elim
     (λ (same : k ≡ key).
     let past : desc_in (entries_by worker es) k ≡ None = next_unregistered v table worker emitted k ids h (same ∙ is) in
@@ -215,10 +215,10 @@ may_push v table worker emitted ids e h may room =
 
 -- a worker's next registration may be pushed
 pub may_push_registration : (v : PassView) (table : List Descriptor) (worker emitted key stamp : ℕ) (ids : List (List SegmentView)) (d : Descriptor) → IsSender v (fields table worker ids emitted)
-    → key ≡ registered_key worker (length ids) → emitted < most_events → length ids < MAX_DESCRIPTORS
+    → is_lawful Dynamic (Described d) ≡ true → key ≡ registered_key worker (length ids) → emitted < most_events → length ids < MAX_DESCRIPTORS
     → MayPush v (entry worker (record { kind = Dynamic; key = key; stamp = stamp; payload = Described d }))
-may_push_registration v table worker emitted key stamp ids d h is room few =
-    may_push v table worker emitted ids (record { kind = Dynamic; key = key; stamp = stamp; payload = Described d }) h (registration_may v table worker emitted key stamp ids d h is few) room
+may_push_registration v table worker emitted key stamp ids d h lawful is room few =
+    may_push v table worker emitted ids (record { kind = Dynamic; key = key; stamp = stamp; payload = Described d }) h (registration_may v table worker emitted key stamp ids d h lawful is few) room
 
 -- what `child` says of the sender's fields
 pub made_may : (t : TableId) (v : PassView) (table : List Descriptor) (worker emitted : ℕ) (ids : List (List SegmentView)) (s : SenderView) (parent : ℕ) (below : Descriptor → Descriptor) (made : List SegmentView × Descriptor)

@@ -6,6 +6,7 @@ use Rattle.tk_ids.specs.declared.descriptors.DType.{DType}
 use Rattle.tk_ids.specs.declared.descriptors.Descriptor.{Descriptor}
 use Rattle.tk_ids.specs.declared.tables.TheConstants.{MAX_DESCRIPTORS}
 use Rattle.tk_ids.specs.IdText.{SegmentView, FitsLimits}
+use Rattle.tk_ids.specs.Table.{unlocked}
 use Rattle.tk_events.specs.declared.kinds.Kind.TheVariants.{Dynamic}
 use Rattle.tk_events.specs.declared.payloads.Payload.TheVariants.{Described}
 use Rattle.tk_events.specs.declared.events.Event.{Event}
@@ -21,10 +22,10 @@ use Rattle.tk_queue_session.specs.Senders.{SenderView, sends, record_of_sender}
 abbrev pub HasRoom : SenderView → Type 0
 HasRoom s = (length s.sent < most_events) × (registrations s.sent < MAX_DESCRIPTORS)
 
--- the descriptor below a parent
+-- the descriptor below a parent, which declares no lock
 abbrev pub child : Descriptor → SegmentView → List ℕ → DType → Descriptor
 child above segment name dtype =
-    record { id = above.id ++ segment ∷ []; name = name; dtype = dtype }
+    unlocked (above.id ++ segment ∷ []) name dtype
 
 -- the sender's next registration
 abbrev pub registration : SenderView → ℕ → Descriptor → Event

@@ -17,7 +17,7 @@ use std::marker::Model;
 use std::sync::{Arc, Wait};
 use tk_base::{MAX_EVENTS, MAX_WORKERS};
 use tk_events::{Entry, Event, Kind, Payload, registered_key};
-use tk_ids::{DType, Descriptor, IdFault, MAX_DESCRIPTORS, Segment, Table, Text, UniqueId};
+use tk_ids::{DType, Descriptor, IdFault, Locks, MAX_DESCRIPTORS, Segment, Table, Text, UniqueId};
 use tk_queue_core::Item;
 
 /// Emits the events of one worker of a session.
@@ -246,7 +246,13 @@ impl Sender {
         };
         let again = id.try_clone()?;
         let name = Text::copy(self.alloc, name)?;
-        Ok((again, Descriptor { id, name, dtype }))
+        let descriptor = Descriptor {
+            id,
+            name,
+            dtype,
+            locks: Locks::new(),
+        };
+        Ok((again, descriptor))
     }
 
     // The key of the next descriptor that is registered.

@@ -11,8 +11,7 @@ use Rattle.tk_record.specs.Recorded.{Recorded, without_entries}
 use Rattle.tk_record.specs.Entries.{with_entry}
 use Rattle.tk_record_text.specs.Spelling.{HasTail, joined, tail}
 use Rattle.tk_record_text.specs.declared.versions.Version.{Version}
-use Rattle.tk_record_text.specs.declared.versions.Version.TheVariants.{Two}
-use Rattle.tk_record_text.specs.Text.{AreEntries}
+use Rattle.tk_record_text.specs.Text.{AreEntries, version_of}
 use Rattle.tk_record_text.proofs.TailLines.{one_tail}
 use Rattle.tk_report_text.specs.Labels.{Label, events, label, labels, name}
 use Rattle.tk_report_text.specs.Reports.{labels_of_id}
@@ -40,7 +39,7 @@ lines_have version r [] h = tt
 lines_have version r (e ∷ es) h = (h.0.line.tail, lines_have version (with_entry r e) es h.2)
 
 pub text_has_tails : TextHasTails
-text_has_tails r h = All-from_recursion EventHasTail r.entries (lines_have Two (without_entries r.table) r.entries h.1)
+text_has_tails r h = All-from_recursion EventHasTail r.entries (lines_have (version_of r) (without_entries r.table) r.entries h.entries)
 
 have : (names : ℕ → List SegmentView) (es : List Entry) → All EventHasTail es → AllByRecursion HasOne (map (label names) (events es))
 have names [] h = tt

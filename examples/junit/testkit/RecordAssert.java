@@ -157,6 +157,14 @@ public final class RecordAssert {
         return ask("yes", 2, question(new String[] {writers, readers}, "explain", "exclusive"));
     }
 
+    /**
+     * Asserts that there are two executions that conflict over a lock, and no two of these overlap. The locks are those in the record: of
+     * Jupiter's {@code @ResourceLock} and {@code @Isolated}, and of each other engine whose descriptors are JUnit's {@code Node}.
+     */
+    public RecordAssert keepsLocks() {
+        return ask("yes", 0, "explain", "locks");
+    }
+
     /** Asserts that the condition holds of so many events. */
     public RecordAssert hasCount(long count, String condition) {
         List<String> found = list(condition);

@@ -19,7 +19,7 @@ import org.junit.platform.testkit.engine.Event;
 import org.junit.platform.testkit.engine.EventType;
 
 /**
- * Writes a record text of version 2 ({@code docs/FORMATS.md}) of a run of {@code EngineTestKit}.
+ * Writes a record text ({@code docs/FORMATS.md}) of a run of {@code EngineTestKit}, with the locks of the descriptors, if they have some.
  *
  * <p>The record has each event of {@code allEvents}, in that order. The results don't say which threads called, so each entry
  * is of worker 1. A stamp is the event's time, in microseconds since 1970.
@@ -88,7 +88,8 @@ public final class ResultsWriter {
         Map<UniqueId, TestIdentifier> identifiers = discovered(events);
         identifiers.putAll(unregistered(events));
         Replay replay = new Replay();
-        replay.attempt(() -> replay.begin(path, System.getProperty(RecordListener.STAMPS_PARAMETER, ""), identifiers));
+        Map<UniqueId, List<String>> locks = replay.locks(() -> RecordLocks.of(events.stream().map(it -> RecordLocks.root(it.getTestDescriptor()))));
+        replay.attempt(() -> replay.begin(path, System.getProperty(RecordListener.STAMPS_PARAMETER, ""), identifiers, locks));
         events.forEach(replay::report);
         replay.attempt(replay::end);
         return replay.isWhole();
@@ -116,7 +117,7 @@ public final class ResultsWriter {
         }
         Map<UniqueId, TestIdentifier> identifiers = new LinkedHashMap<>();
         for (Event event : events) {
-            TestDescriptor root = root(event.getTestDescriptor());
+            TestDescriptor root = RecordLocks.root(event.getTestDescriptor());
             // (a descriptor with a longer id that has no parent is in the tree of no engine)
             if (root.getUniqueId().getSegments().size() == 1) {
                 collect(root, registered, identifiers);
@@ -140,10 +141,6 @@ public final class ResultsWriter {
 
     private static boolean isRegistration(Event event) {
         return event.getType() == EventType.DYNAMIC_TEST_REGISTERED;
-    }
-
-    private static TestDescriptor root(TestDescriptor descriptor) {
-        return descriptor.getParent().map(ResultsWriter::root).orElse(descriptor);
     }
 
     /** Puts a descriptor that wasn't registered, and what is below it, into {@code identifiers}, parents first. */

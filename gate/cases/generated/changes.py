@@ -3,6 +3,7 @@
 from typing import List, Sequence, Tuple
 
 import form
+from generated import locks
 from generated.conditions import condition_text
 from generated.numbers import Cases, Numbers, modelled, series
 from generated.plans import plan, plan_text
@@ -42,6 +43,8 @@ def question(numbers: Numbers) -> List[str]:
         ["count", numbers.one_of(form.SELECTIONS)],
         ["executions"],
         ["lifecycle"],
+        ["locks"],
+        ["explain", "locks"],
         ["report"],
         ["exclusive", condition_text(numbers, 1), condition_text(numbers, 1)],
         ["list", numbers.one_of(form.SELECTIONS), condition_text(numbers, 1)],
@@ -53,7 +56,7 @@ def question(numbers: Numbers) -> List[str]:
 
 
 def changed_record(numbers: Numbers) -> Start:
-    text = numbers.one_of([TWO_TESTS.encode(), EVERY_KIND.encode(), record_text(numbers, 12)])
+    text = numbers.one_of([TWO_TESTS.encode(), EVERY_KIND.encode(), record_text(numbers, 12), locks.text_of(numbers)])
     return question(numbers), change(numbers, text)
 
 

@@ -1,9 +1,9 @@
-"""Explanations of generated records: of matches, lifecycles, executions that overlap, lists and executions."""
+"""Explanations of generated records: of matches, lifecycles, executions that overlap or hold locks, lists and executions."""
 
 from typing import Callable, List, Sequence, Tuple
 
 import form
-from generated import exclusives, lifecycles
+from generated import exclusives, lifecycles, locks
 from generated.conditions import ATOMS, condition_text
 from generated.numbers import Cases, Numbers, each_is_met, modelled, series
 from generated.questions import conditions_in_turn, conditions_of_events, events_of, fitting, selection
@@ -127,6 +127,14 @@ def of_exclusives() -> Cases:
     return cases + [each_is_met("generated explanation, exclusive", met, shown, 3)]
 
 
+def of_locks() -> Cases:
+    """Executions that hold locks, of which some overlap."""
+    cases = series("generated explanation, locks", Numbers(68), 300, lambda numbers: locks.asked(numbers, "explain", "locks"))
+    shown = ["yes", "no pair\n0 ", "no pair\n2 ", "overlap, over global\n", "overlap, over db\n", "overlap, over a\\pb\n"]
+    met = [part for case in cases for part in shown if part in case.output.decode()]
+    return cases + [each_is_met("generated explanation, locks", met, shown, 3)]
+
+
 def of_lists() -> Cases:
     """Lists of events, and of executions."""
     numbers = Numbers(63)
@@ -147,5 +155,6 @@ def cases() -> Cases:
         *matches("loosely", 60, 300, 60, of_some, [*shown, *some]),
         *of_lifecycles(),
         *of_exclusives(),
+        *of_locks(),
         *of_lists(),
     ]

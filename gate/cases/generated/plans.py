@@ -12,6 +12,7 @@ from recorded import RecordedRun
 SEGMENTS = [["t", "1"], ["t", "2"], ["t", "10"], ["c", "a/b"], ["c", "%"], ["T", "|"], ["é", "x y"], ["t", "\n"], ["d", "[1]"]]
 TEXTS = ["", "off", "boom", "a|b", "back\\slash", "line\nfeed", "spät 🦀", "\t"]
 LOCK_KEYS = ["global", "db", "a", "b", "", "é"]
+MANY_KEYS = ["global", *(f"k{number}" for number in range(form.MAX_LOCK_KEYS))]
 KEYS = ["", "a", "b", "aa", "B", "é", "k|", "k\\"]
 
 Value = Dict[str, object]
@@ -77,6 +78,19 @@ def plan(numbers: Numbers) -> Value:
     return {"version": form.LATEST, "root": node(numbers, segment, 1 + numbers.below(5), True)}
 
 
+def locked(numbers: Numbers, segment: list) -> Value:
+    """A node with locks, and with entries, so that it takes a while."""
+    made = node(numbers, segment, 1, True)
+    held = [{**lock(numbers), "key": numbers.one_of(MANY_KEYS)} for _ in range(numbers.below(4))]
+    return {**made, "locks": held, "isolated": numbers.below(20) == 0, "entries": 20 * [[]]}
+
+
+def plan_of_locks(numbers: Numbers) -> Value:
+    """A plan of thirty concurrent nodes, each with one below it, and all with locks."""
+    nodes = [{**locked(numbers, ["n", str(number)]), "mode": "concurrent", "children": [locked(numbers, ["t", "1"])]} for number in range(30)]
+    return {"version": form.LATEST, "root": {"type": "container", "segment": ["engine", "e"], "name": "", "children": nodes}}
+
+
 def plan_text(numbers: Numbers, value: Value) -> bytes:
     """A plan as JSON, laid out in one of several ways."""
     indent = numbers.one_of([None, None, 1])
@@ -131,6 +145,15 @@ def runs() -> Cases:
     return made + recorded + [each_is_met("generated plan", met, ["done", "entry key", "plan table"], 3)]
 
 
+def runs_with_locks() -> Cases:
+    """The records of plans with many locks, each run by four workers and by the most: no two executions that conflict overlap."""
+    numbers = Numbers(69)
+    plans = [modelled(f"generated plan of locks/{number}", ["run"], plan_text(numbers, plan_of_locks(numbers))) for number in range(20)]
+    return [
+        RecordedRun(f"{it.name}, recorded, {workers} workers", it.input, workers, it.output) for it in plans for workers in (4, form.MAX_WORKERS)
+    ]
+
+
 def spoiled(numbers: Numbers) -> Tuple[List[str], bytes]:
     """A plan with one value spoiled."""
     value = plan(numbers)
@@ -141,4 +164,4 @@ def spoiled(numbers: Numbers) -> Tuple[List[str], bytes]:
 def cases() -> Cases:
     made = series("generated spoiled plan", Numbers(32), 300, spoiled)
     met = [kind_of_outcome(case) for case in made]
-    return [*runs(), *made, each_is_met("generated spoiled plan", met, ["done", "plan member"], 20)]
+    return [*runs(), *runs_with_locks(), *made, each_is_met("generated spoiled plan", met, ["done", "plan member"], 20)]

@@ -6,7 +6,7 @@ purpose, and knows nothing of how the program works.
 - `texts`: numbers, text fields and unique ids.
 - `records`: descriptors, events, records, and reading and writing their texts.
 - `conditions`: reading conditions, and of which events they hold.
-- `questions`, `lifecycle`: what `ask` answers.
+- `questions`, `lifecycle`, `locks`: what `ask` answers.
 - `explanations`, `lifecycle_explanations`: what `ask explain` answers; `rows`: how it shows events and descriptors.
 - `words`: the words after `ask`.
 - `replays`: what `replay` answers.

@@ -6,7 +6,7 @@ from model.conditions import Condition, holds, write_condition
 from model.questions import Answer, Events, executions, exclusive, first_positions, holds_at, list_events
 from model.questions import match_exactly, match_in_order, match_loosely, mismatches, spans, statistics_text
 from model.records import Descriptor, Event, Record
-from model.rows import described, event_row
+from model.rows import described, event_row, overlap_rows
 from model.texts import write_field, write_id
 
 NONE_LEFT = "    no event is left\n"
@@ -185,12 +185,9 @@ def explain_exclusive(record: Record, writers: Condition, readers: Condition) ->
     if answer == "no pair\n":
         return answer + holders(record, [writers] + [readers] * (readers != NOBODY)), False
     starts = [int(text) for text in answer.split()[1:]]
-    ends = [spans(record)[start] for start in starts]
-    one, other = [f"{described(record, record.entries[start].event.key)} ({start} to {end})" for start, end in zip(starts, ends)]
     written = [name for name, start in zip(("first", "second"), starts) if holds_at(record, writers, start)]
     who = ", both as writers" if len(written) == 2 else f", the {written[0]} as a writer"
-    rows = "".join(event_row(record, position) for position in sorted(starts + ends))
-    return f"{answer}{one} and {other} overlap{who * (readers != NOBODY)}\n{rows}", False
+    return answer + overlap_rows(record, spans(record), starts, who * (readers != NOBODY)), False
 
 
 def explain_list(record: Record, name: str, conditions: List[Condition]) -> Answer:

@@ -14,6 +14,7 @@ MAX_NESTING = 127
 """How deep arrays and objects may be nested: `serde_json` reads no deeper."""
 
 NODE_TYPES = {"container": "C", "test": "T", "both": "B"}
+LOCK_MODES = {"read": "R", "read_write": "W"}
 NODE_STATUSES = {"successful": "ok", "aborted": "abort", "failed": "fail"}
 
 
@@ -40,7 +41,7 @@ class Node:
     message: Optional[str] = None
     is_concurrent: bool = False
     is_isolated: bool = False
-    locks: List[str] = field(default_factory=list)
+    locks: List[Tuple[str, str]] = field(default_factory=list)
     entries: List[List[Tuple[str, str]]] = field(default_factory=list)
     files: List[str] = field(default_factory=list)
     children: List["Node"] = field(default_factory=list)
@@ -137,15 +138,15 @@ def check_pair(value: object, path: str) -> Tuple[str, str]:
     return first, second
 
 
-def check_lock(value: object, path: str) -> str:
-    """The key of a lock."""
-    key = ""
+def check_lock(value: object, path: str) -> Tuple[str, str]:
+    """The key of a lock, and how it is held, `R` or `W`."""
+    key, mode = "", "W"
     for name, member, member_path in check_members(value, path, ["key", "mode"], ["key"]):
         if name == "key":
             key = check_text(member, member_path)
         else:
-            check_word(member, member_path, ["read", "read_write"])
-    return key
+            mode = LOCK_MODES[check_word(member, member_path, LOCK_MODES)]
+    return key, mode
 
 
 def check_result(value: object, path: str) -> Tuple[str, Optional[str]]:
@@ -257,7 +258,7 @@ class PlanReader:
         is_full = max(self.static_nodes, self.dynamic_nodes) > form.MAX_DESCRIPTORS
         if node.segment in siblings or is_full:
             raise Refused("plan table is refused")
-        for key in node.locks:
+        for key, _ in node.locks:
             if key != "global" and key not in self.lock_keys:
                 self.lock_keys.append(key)
         if len(self.lock_keys) > form.MAX_LOCK_KEYS:
@@ -319,6 +320,12 @@ def static_nodes(node: Node, above: Id = ()) -> Iterator[Tuple[Descriptor, Node]
         yield from static_nodes(child, descriptor.id)
 
 
+def declared_locks(node: Node) -> Dict[bytes, str]:
+    """How a node holds each of its locks, by its name: of two of one name the stronger stays, and `isolated` is `global` for writing."""
+    locks = node.locks + [("global", "W")] * node.is_isolated
+    return {name.encode(): "W" if (name, "W") in locks else "R" for name, _ in locks if name}
+
+
 def spine(node: Node, above: Id = (), is_root: bool = True) -> Iterator[Id]:
     """The ids of the nodes whose children are units, or stand on the spine themselves."""
     may_be = is_root or (node.is_concurrent and node.letter in "CB")
@@ -331,7 +338,9 @@ def spine(node: Node, above: Id = (), is_root: bool = True) -> Iterator[Id]:
 
 def record_of_one_worker(root: Node) -> Record:
     """The record of a run by one worker: the starts and entries of the spine, the units in their order, the finishes of the spine."""
-    record = Record([descriptor for descriptor, _ in static_nodes(root)])
+    nodes = list(static_nodes(root))
+    record = Record([descriptor for descriptor, _ in nodes])
+    record.locks.update(((key, name), mode) for key, (_, node) in enumerate(nodes) for name, mode in declared_locks(node).items())
     above = set(spine(root))
     keys = {descriptor.id: key for key, descriptor in enumerate(record.table)}
 

@@ -1,5 +1,7 @@
 """The rows of explanations that show events and descriptors."""
 
+from typing import Dict, List
+
 from model.records import Record
 from model.texts import write_field, write_id
 
@@ -14,3 +16,10 @@ def event_row(record: Record, position: int, more: str = "") -> str:
     """The event at a position, its descriptor, and what more is said of it."""
     entry = record.entries[position]
     return f"    {position}: {entry.line()}   {described(record, entry.event.key)}{more}\n"
+
+
+def overlap_rows(record: Record, ends: Dict[int, int], starts: List[int], more: str) -> str:
+    """That the executions of two starts overlap, with what more is said of them, and the rows of their four events."""
+    one, other = [f"{described(record, record.entries[start].event.key)} ({start} to {ends[start]})" for start in starts]
+    positions = sorted(starts + [ends[start] for start in starts])
+    return f"{one} and {other} overlap{more}\n" + "".join(event_row(record, position) for position in positions)

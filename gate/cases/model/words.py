@@ -7,6 +7,7 @@ from model import explanations, questions
 from model.conditions import BadAtom, Condition, Deep, read_condition
 from model.lifecycle import lifecycle
 from model.lifecycle_explanations import explain_lifecycle
+from model.locks import explain_locks, locks
 from model.questions import Answer, Events, all_events
 from model.records import Record, Refused, read_record
 from model.texts import read_number
@@ -32,6 +33,7 @@ def read_question(words: List[str]) -> Question:
         "exclusive": lambda words: read_exclusive(words, 0, questions.exclusive),
         "executions": lambda words: read_executions(words, 0, questions.executions),
         "lifecycle": lambda words: read_no_word(words, 0, lifecycle),
+        "locks": lambda words: read_no_word(words, 0, locks),
         "report": lambda words: read_no_word(words, 0, questions.report),
         "explain": read_explain,
     }
@@ -48,6 +50,7 @@ def read_explain(words: List[str]) -> Question:
         "exclusive": lambda words: read_exclusive(words, 1, explanations.explain_exclusive),
         "executions": lambda words: read_executions(words, 1, explanations.explain_executions),
         "lifecycle": lambda words: read_no_word(words, 1, explain_lifecycle),
+        "locks": lambda words: read_no_word(words, 1, explain_locks),
     }
     if words and words[0] in readers:
         return readers[words[0]](words[1:])

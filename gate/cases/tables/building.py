@@ -17,6 +17,7 @@ Word = Union[str, bytes]
 Text = Union[str, Bytes]
 
 HEADER = f"testkit-record|{form.LATEST}\n"
+LOCK_HEADER = f"testkit-record|{form.LOCK_VERSION}\n"
 REPLAY_HEADER = f"testkit-replay|{form.LATEST}\n"
 
 
@@ -63,8 +64,8 @@ def stats(**numbers: int) -> str:
 
 
 def record(*lines: str) -> str:
-    """A record text of these lines after the header."""
-    return HEADER + "".join(line + "\n" for line in lines)
+    """A record text of these lines after the header, which is another where one is of a lock."""
+    return (LOCK_HEADER if any(line.startswith("L") for line in lines) else HEADER) + "".join(line + "\n" for line in lines)
 
 
 def replay(*lines: str) -> str:

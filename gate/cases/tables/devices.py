@@ -29,6 +29,8 @@ READING = [
     "ask explain exclusive test",
     "ask explain executions",
     "ask explain lifecycle",
+    "ask locks",
+    "ask explain locks",
     "replay",
     "run",
     "run --workers 2",
@@ -53,6 +55,8 @@ WRITING = [
     ("ask explain exclusive all()", TWO_TESTS),
     ("ask explain executions", TWO_TESTS),
     ("ask explain lifecycle", ONE_START),
+    ("ask locks", TWO_TESTS),
+    ("ask explain locks", TWO_TESTS),
     ("replay", SMALL_REPLAY),
     ("run", ONE_TEST_PLAN),
     ("run --workers 2", DEMO_PLAN),
@@ -88,6 +92,8 @@ BAD_WORDS = [
     ("ask explain list all tesx", "condition 2 is bad at 3"),
     ("ask explain list tests test tesx", "condition 3 is bad at 3"),
     ("ask explain lifecycle x", "bad word 1"),
+    ("ask locks x", "bad word 0"),
+    ("ask explain locks x", "bad word 1"),
 ]
 """Words that are refused before any input is read."""
 

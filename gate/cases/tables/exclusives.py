@@ -8,10 +8,15 @@ from tables.texts import EMPTY, TWO_TESTS
 NODES = ["N|C|[engine:e]|e"] + [f"N|T|[engine:e]/[t:{key}]|t{key}" for key in (1, 2, 3)]
 
 
+def events_of(text: str) -> List[str]:
+    """The lines of events of worker 1, of which the text has keys and tails."""
+    pairs = [pair.strip().partition(" ") for pair in text.split(",") if pair]
+    return [f"E|1|{key}|0|{tail}" for key, _, tail in pairs]
+
+
 def events(text: str) -> Text:
     """A record of a container and three tests below it; the events are their keys and tails, of worker 1."""
-    pairs = [pair.strip().partition(" ") for pair in text.split(",") if pair]
-    return record(*NODES, *[f"E|1|{key}|0|{tail}" for key, _, tail in pairs])
+    return record(*NODES, *events_of(text))
 
 
 APART = events("1 start, 1 finish|ok, 2 start, 2 finish|ok")

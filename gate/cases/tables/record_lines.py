@@ -1,7 +1,7 @@
 """Record texts: the header, each field of each line, and what the record refuses."""
 
 import form
-from tables.building import HEADER, answer, fault, record, stats
+from tables.building import HEADER, LOCK_HEADER, answer, fault, record, stats
 from tables.texts import EMPTY, TWO_TESTS
 
 NODE = "N|T|[engine:e]|e"
@@ -28,11 +28,11 @@ def good_node(line: str):
     return answer(f"node line/{line!r}", STATS, record(line), stats())
 
 
-HEADERS = [answer(f"header/version {version}", STATS, f"testkit-record|{version}\n", stats()) for version in form.VERSIONS] + [
+HEADERS = [answer(f"header/version {version}", STATS, f"testkit-record|{version}\n", stats()) for version in form.RECORD_VERSIONS] + [
     fault(f"header/{name}", STATS, text, "no header")
     for name, text in [
         ("empty input", ""),
-        ("a later version", f"testkit-record|{form.LATEST + 1}\n"),
+        ("a later version", f"testkit-record|{form.LOCK_VERSION + 1}\n"),
         ("version 0", "testkit-record|0\n"),
         ("version 01", "testkit-record|01\n"),
         ("no version", "testkit-record|\n"),
@@ -199,5 +199,42 @@ FILES = [
     good_line("E|1|0|0|file|a\\pb", files=1),
 ]
 
+BAD_LOCKS = r"""
+L L| L|0 L|0|W L|0|W| L|0|W|db| L|0|W|db|net L|0|w|db L|0||db L|0|RW|db L|0|R,W|db L||W|db L|00|W|db L|+0|W|db L|-0|W|db L|x|W|db
+L|1|W|db L|65536|W|db L|4294967295|W|db L|4294967296|W|db L|0|W|d\x L|0|W|\ LL|0|W|db L|W|0|db
+""".split()
+
+ORDERS_OF_LOCKS = [
+    ("names that fall", "L|0|W|net", "L|0|W|db"),
+    ("a name after one that it begins", "L|0|W|db", "L|0|W|d"),
+    ("a small letter before a capital", "L|0|W|a", "L|0|W|Z"),
+    ("the order of the fields, and not of the names", "L|0|W|Z", "L|0|W|\\n"),
+    ("a name twice", "L|0|W|db", "L|0|W|db"),
+    ("a name twice, in both modes", "L|0|R|db", "L|0|W|db"),
+    ("a descriptor after it", "L|0|W|db", "N|T|[engine:f]|f"),
+    ("an event before it", "E|1|0|0|start", "L|0|W|db"),
+]
+"""The last of two lines is bad."""
+
+THREE_NODES = [NODE, "N|T|[engine:e]/[t:1]|1", "N|T|[engine:e]/[t:2]|2"]
+LOCK_LINES = r"L|0|R|a L|0|W|ab L|0|W|b L|2|W|\n L|2|R|A L|2|W|\\\p L|2|R|global L|2|W|z L|2|R|é".split()
+
+LOCKS = [fault(f"lock line/{line!r}", STATS, record(NODE, line), "line 3 is bad") for line in BAD_LOCKS] + [
+    *[fault(f"lock lines/{name}", STATS, LOCK_HEADER + record(NODE, *lines).partition("\n")[2], "line 4 is bad") for name, *lines in ORDERS_OF_LOCKS],
+    *[
+        fault(f"lock lines/in version {version}", STATS, f"testkit-record|{version}\n{NODE}\nL|0|W|db\n", "line 3 is bad")
+        for version in form.VERSIONS
+    ],
+    fault("lock lines/keys that fall", STATS, record(*THREE_NODES, "L|1|W|a", "L|0|W|b"), "line 6 is bad"),
+    fault("lock lines/no descriptor", STATS, record("L|0|W|db"), "line 2 is bad"),
+    fault("lock lines/a key that is registered later", STATS, record(NODE, "L|65536|W|db", FIRST), "line 3 is bad"),
+    fault("lock lines/no text", STATS, record(NODE, "L|0|W|").encode()[:-1] + b"\xff\n", "line 3 is bad"),
+    fault("lock lines/no line feed", STATS, record(NODE, "L|0|W|db")[:-1], "line 3 is bad"),
+    fault("lock lines/twice the header", STATS, LOCK_HEADER + LOCK_HEADER, "line 2 is bad"),
+    answer("lock lines/in order", "ask list all", record(*THREE_NODES, *LOCK_LINES, "E|1|2|0|start"), "0 E|1|2|0|start\n"),
+    answer("lock lines/none", STATS, LOCK_HEADER + NODE + "\nE|1|0|0|file|a\n", stats(files=1)),
+    answer("lock lines/no event", STATS, record(NODE, "L|0|W|\x7f\0"), stats()),
+]
+
 CASES = HEADERS + NODE_LINES + TABLES + [third_line(line, "is bad") for line in BAD_ENTRIES]
-CASES += REFUSED_ENTRIES + GOOD_ENTRIES + REGISTRATIONS + ENDS + NO_TEXT + QUESTIONS_ASKED + FILES
+CASES += REFUSED_ENTRIES + GOOD_ENTRIES + REGISTRATIONS + ENDS + NO_TEXT + QUESTIONS_ASKED + FILES + LOCKS

@@ -84,6 +84,7 @@ FORMS = [
     refused("bad entry", ["W|2", NODE, "E|1|0|00|start", "S"], "line 4 is bad"),
     refused("bad tail", ["W|2", NODE, "E|1|0|0|finish", "S"], "line 4 is bad"),
     refused("first of two bad lines", ["W|2", "N|T|[engine]|e", "E|1|0|0", "S"], "line 3 is bad"),
+    refused("a lock", ["W|1", NODE, "L|0|W|db", "S"], "line 4 is bad"),
     refused("bad line before a faulty step", ["W|1", NODE, "S|1|1", "x"], "line 5 is bad"),
     fault("replay/no line feed after the steps", "replay", SMALL_REPLAY[:-1], "line 7 is bad"),
     fault("replay/no line feed after the workers", "replay", REPLAY_HEADER + "W|2", "line 2 is bad"),

@@ -8,6 +8,7 @@ import org.junit.platform.engine.ExecutionRequest;
 import org.junit.platform.engine.TestDescriptor.Type;
 import org.junit.platform.engine.TestEngine;
 import org.junit.platform.engine.UniqueId;
+import org.junit.platform.engine.support.hierarchical.ExclusiveResource.LockMode;
 import org.junit.platform.testkit.engine.ExecutionRecorder;
 import testkit.ScriptedEngine.Node;
 import testkit.ScriptedEngine.Script;
@@ -34,6 +35,8 @@ public class KitCases {
         CASES.put("kit-times", KitCases::times);
         CASES.put("kit-positions", KitCases::positions);
         CASES.put("kit-two-results", KitCases::twoResults);
+        CASES.put("kit-locks", KitCases::locks);
+        CASES.put("kit-lock-of-registered", KitCases::lockOfRegistered);
         CASES.put("kit-over-listener", KitCases::overListener);
         CASES.put("kit-bad-path", (path, name) -> write("/", name, root -> { }, (calls, root) -> calls.start(root)));
     }
@@ -136,6 +139,28 @@ public class KitCases {
         } finally {
             System.clearProperty("testkit.stamps");
         }
+    }
+
+    /** Locks of descriptors of the tree, with and without events, of one that was registered, and of one that nobody registered. */
+    private static void locks(String path, String name) {
+        write(path, name, root -> {
+            LockCases.Locking.below(root, "1").lock("db", LockMode.READ);
+            LockCases.Locking.below(root, "4").lock("net", LockMode.READ);
+        }, (calls, root) -> {
+            calls.play(root.child(0));
+            LockCases.Locking dynamic = LockCases.Locking.below(root, "2").lock("db", LockMode.READ_WRITE);
+            calls.register(dynamic);
+            calls.play(dynamic);
+            calls.play(new LockCases.Locking(root.getUniqueId().append("t", "3")).lock("net", LockMode.READ_WRITE));
+        });
+    }
+
+    /** A lock of a registered descriptor alone, which no record has. */
+    private static void lockOfRegistered(String path, String name) {
+        write(path, name, KitCases::oneTest, (calls, root) -> {
+            calls.start(root);
+            calls.register(LockCases.Locking.below(root, "2").lock("db", LockMode.READ_WRITE));
+        });
     }
 
     /** Results at the path of earlier ones, which have more events. The later ones have none of their root, and first one of no tree. */

@@ -71,7 +71,7 @@ public class ListenerCases {
         "\uFFFD\u2028\u0085\uFEFF"};
 
     /** Where a case leaves what it made. */
-    private static class Room {
+    static class Room {
 
         private final String folder;
         private final String name;
@@ -97,7 +97,7 @@ public class ListenerCases {
     }
 
     /** A throwable whose message can't be had. */
-    private static class Unreadable extends RuntimeException {
+    static class Unreadable extends RuntimeException {
 
         private static final long serialVersionUID = 1;
 
@@ -182,8 +182,12 @@ public class ListenerCases {
     private ListenerCases() {
     }
 
-    /** Runs the cases {@code arguments[1]} and so on, and leaves what they made in the folder {@code arguments[0]}. */
     public static void main(String[] arguments) throws Exception {
+        main(ListenerCases.class, arguments);
+    }
+
+    /** Runs the cases {@code arguments[1]} and so on, and leaves what they made in the folder {@code arguments[0]}. */
+    static void main(Class<?> cases, String[] arguments) throws Exception {
         // (JUnit logs what it drops)
         LogManager.getLogManager().reset();
         for (int i = 1; i < arguments.length; i++) {
@@ -194,7 +198,8 @@ public class ListenerCases {
             for (String word : name.split("-")) {
                 method.append(method.length() == 0 ? word : word.substring(0, 1).toUpperCase() + word.substring(1));
             }
-            Method found = ListenerCases.class.getDeclaredMethod(method.toString(), Room.class);
+            Method found = cases.getDeclaredMethod(method.toString(), Room.class);
+            found.setAccessible(true);
             run(arguments[0], arguments[i], () -> found.invoke(null, room));
         }
     }
@@ -224,7 +229,7 @@ public class ListenerCases {
     /** Runs the engines with this listener; {@code parameters} are names and values of configuration parameters. */
     private static void launch(TestExecutionListener listener, Map<String, String> parameters, TestEngine... engines) {
         LauncherConfig config = LauncherConfig.builder().enableTestExecutionListenerAutoRegistration(false)
-                .enableTestEngineAutoRegistration(false).addTestEngines(engines).build();
+                .enableTestEngineAutoRegistration(false).addTestEngines(engines).addPostDiscoveryFilters(new RecordLocks()).build();
         Launcher launcher = LauncherFactory.create(config);
         launcher.registerTestExecutionListeners(listener);
         launcher.execute(LauncherDiscoveryRequestBuilder.request().configurationParameters(parameters).build());
@@ -342,7 +347,7 @@ public class ListenerCases {
         });
     }
 
-    private static String letters(int count) {
+    static String letters(int count) {
         return String.join("", Collections.nCopies(count, "x"));
     }
 

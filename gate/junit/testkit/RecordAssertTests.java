@@ -26,6 +26,7 @@ import static testkit.RecordAssert.Conditions.wasAborted;
 import static testkit.RecordAssert.Conditions.wasSkipped;
 
 import java.io.IOException;
+import java.io.UncheckedIOException;
 import java.lang.reflect.Method;
 import java.nio.charset.Charset;
 import java.nio.file.Files;
@@ -115,6 +116,7 @@ class RecordAssertTests {
         found.put("ask explain failed in-order d e f", it -> it.on("failed").matchesInOrder("d", "e", "f"));
         found.put("ask explain exclusive g", it -> it.exclusive("g"));
         found.put("ask explain exclusive h i", it -> it.containers().exclusive("h", "i"));
+        found.put("ask explain locks", it -> it.tests().keepsLocks());
         return found;
     }
 
@@ -351,9 +353,7 @@ class RecordAssertTests {
     /** Asks the program itself, at a yes and at a no of each method. */
     @Test
     void theProgramAnswers() throws IOException {
-        String program = System.getProperty("testkit.real", "");
-        assumeTrue(!program.isEmpty(), "no program");
-        System.setProperty("testkit.program", program);
+        useTheProgram();
         RecordAssert asserting = RecordAssert.assertThat(record).keepsLifecycle().hasStatistics("failed=1", "started=3")
                 .matchesLoosely(all(isTest(), hasFailed("boom")), hasSucceeded()).matchesInOrder(hasFailed(), all(hasName("two"), hasSucceeded()))
                 .matchesExactly(isEngine(), hasId("t:1"), hasSegment("t", "2"), hasMessage("oo"), hasSucceeded(), isContainer());
@@ -377,6 +377,31 @@ class RecordAssertTests {
         assertTrue(fault.getMessage().endsWith(" is refused: condition 1 is bad at 4"), fault.getMessage());
         Path none = Files.write(folder.resolve("none.record"), new byte[0]);
         assertThrows(IllegalArgumentException.class, () -> RecordAssert.assertThat(none).keepsLifecycle());
+    }
+
+    /** Asks the program itself about two locks that are held one after the other, about two that are held at once, and about none. */
+    @Test
+    void theProgramJudgesLocks() throws IOException {
+        useTheProgram();
+        RecordAssert.assertThat(withLocks(APART)).keepsLocks();
+        assertRefused("no 1 2 a\\pb", () -> RecordAssert.assertThat(withLocks(TWO_TESTS)).keepsLocks());
+        assertRefused("no pair\n0 executions hold a lock", () -> RecordAssert.assertThat(record).keepsLocks());
+    }
+
+    /** Writes a record, of whose tests one reads a lock and the other one writes it. */
+    private Path withLocks(String text) {
+        try {
+            String locks = text.replace("record|2", "record|3").replaceFirst("\nE", "\nL|1|R|a\\\\pb\nL|2|W|a\\\\pb\nE");
+            return Files.write(folder.resolve("locks.record"), locks.getBytes(UTF_8));
+        } catch (IOException fault) {
+            throw new UncheckedIOException(fault);
+        }
+    }
+
+    private static void useTheProgram() {
+        String program = System.getProperty("testkit.real", "");
+        assumeTrue(!program.isEmpty(), "no program");
+        System.setProperty("testkit.program", program);
     }
 
     private static void assertRefused(String answer, Runnable asserting) {

@@ -5,7 +5,8 @@ ghost use Rattle.std.specs.Prelude.{[]};
 ghost use Rattle.std.specs.Arc.{arc_value};
 
 use engine_testkit::{
-    BookSeat, DType, Engine, Event, Need, Segment, Sink, Status, Table, UnitFault, finish, start,
+    BookSeat, DType, Engine, Event, Need, Segment, Sink, Status, Table, TableFault, UnitFault,
+    finish, start,
 };
 use std::alloc::{AllocError, Global};
 use std::sync::{Arc, Wait};
@@ -29,21 +30,22 @@ pub struct BrokenEngine {
     defect: Defect,
 }
 
-// A table of one test, or `None` where memory is refused.
-fn one_test(alloc: Global) -> Option<Table> {
-    let segment = Segment::new(alloc, "engine", "broken").ok()?;
+// A table of one test.
+fn one_test(alloc: Global) -> Result<Table, TableFault> {
+    let segment = Segment::new(alloc, "engine", "broken").map_err(TableFault::Id)?;
     let mut table = Table::new(alloc);
-    match table.add(alloc, None, &segment, "broken", DType::Test) {
-        Ok(_) => Some(table),
-        Err(_) => None,
-    }
+    let _test = table.add(alloc, None, &segment, "broken", DType::Test)?;
+    Ok(table)
 }
 
 impl BrokenEngine {
-    /// Makes an engine with this defect, or `None` where memory is refused.
-    pub fn new(alloc: Global, defect: Defect) -> Option<BrokenEngine> {
-        let table = Arc::new(alloc, one_test(alloc)?).ok()?;
-        Some(BrokenEngine {
+    /// Makes an engine with this defect.
+    ///
+    /// # Errors
+    /// `TableFault` where memory is refused.
+    pub fn new(alloc: Global, defect: Defect) -> Result<BrokenEngine, TableFault> {
+        let table = Arc::new(alloc, one_test(alloc)?)?;
+        Ok(BrokenEngine {
             table,
             need: Need::of(0, 0),
             defect,

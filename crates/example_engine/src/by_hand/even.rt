@@ -1,14 +1,14 @@
 //! An engine of one test by hand: is a number even?
 #![tactic(auto, using(engine_testkit::proofs::Emissions::emissions))]
 
-ghost use Rattle.std.specs.Prelude.{◌≡◌, ◌<◌, ◌%◌, ◌==◌, if◌then◌else◌, [], ◌∷◌, None, IfSome, length};
+ghost use Rattle.std.specs.Prelude.{◌≡◌, ◌<◌, ◌%◌, ◌==◌, if◌then◌else◌, [], ◌∷◌, None, IfOk, length};
 ghost use Rattle.std.specs.Arc.{arc_value};
 ghost use Rattle.engine_testkit.specs.Events.{finished, started};
 ghost use Rattle.engine_testkit.specs.Status.TheVariants.{Failed, Successful};
 
 use engine_testkit::{
-    BookSeat, DType, Engine, Event, Need, Segment, Sink, Status, Table, UnitFault, finish,
-    finished, start, started,
+    BookSeat, DType, Engine, Event, Need, Segment, Sink, Status, Table, TableFault, UnitFault,
+    finish, finished, start, started,
 };
 use std::alloc::{AllocError, Global};
 use std::sync::{Arc, Wait};
@@ -24,21 +24,20 @@ pub struct EvenEngine {
 }
 
 impl EvenEngine {
-    /// Makes an engine of this number, or `None` where memory is refused.
-    pub fn new(alloc: Global, number: u64) -> Option<EvenEngine>
-        ensures { IfSome result (λ engine. engine.number ≡ number) }
+    /// Makes an engine of this number.
+    ///
+    /// # Errors
+    /// `TableFault` where memory is refused.
+    pub fn new(alloc: Global, number: u64) -> Result<EvenEngine, TableFault>
+        ensures { IfOk result (λ engine. engine.number ≡ number) }
     {
-        let root = Segment::new(alloc, "engine", "even").ok()?;
-        let test = Segment::new(alloc, "test", "number").ok()?;
+        let root = Segment::new(alloc, "engine", "even").map_err(TableFault::Id)?;
+        let test = Segment::new(alloc, "test", "number").map_err(TableFault::Id)?;
         let mut table = Table::new(alloc);
-        let key = table
-            .add(alloc, None, &root, "even", DType::Container)
-            .ok()?;
-        table
-            .add(alloc, Some(key), &test, "number", DType::Test)
-            .ok()?;
-        let (need, table) = (Need::of(0, 0), Arc::new(alloc, table).ok()?);
-        Some(EvenEngine {
+        let key = table.add(alloc, None, &root, "even", DType::Container)?;
+        let _test = table.add(alloc, Some(key), &test, "number", DType::Test)?;
+        let (need, table) = (Need::of(0, 0), Arc::new(alloc, table)?);
+        Ok(EvenEngine {
             number,
             need,
             table,

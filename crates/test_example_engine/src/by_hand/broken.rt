@@ -50,7 +50,7 @@ fn verdict<R: Threads + Wait + Sync>(
     alloc: Global,
     defect: Defect,
 ) -> Option<(Option<Mismatch>, Exact, usize)> {
-    let engine = BrokenEngine::new(alloc, defect)?;
+    let engine = BrokenEngine::new(alloc, defect).ok()?;
     let ran = execute(rt, alloc, &engine, 1, 1);
     let verdict = match &ran {
         Ok(results) => verdict_on_run(alloc, results).ok(),
@@ -91,7 +91,7 @@ fn lifecycle_of<R: Threads + Wait + Sync>(
     alloc: Global,
     defect: Defect,
 ) -> Option<Lifecycle> {
-    let engine = BrokenEngine::new(alloc, defect)?;
+    let engine = BrokenEngine::new(alloc, defect).ok()?;
     let ran = execute(rt, alloc, &engine, 1, 1);
     let lifecycle = match &ran {
         Ok(results) => results.lifecycle(alloc).ok(),

@@ -13,7 +13,7 @@ fn is_recorded<R: Threads + Wait + Sync>(
     number: u64,
     record: &[u8],
 ) -> Option<bool> {
-    let engine = EvenEngine::new(alloc, number)?;
+    let engine = EvenEngine::new(alloc, number).ok()?;
     let results = execute(rt, alloc, &engine, 1, 16).ok()?;
     Some(has_record(alloc, &results, record))
 }

@@ -3,38 +3,29 @@ ghost use Rattle.std.specs.Prelude.{◌≡◌, ◌∷◌};
 
 use std::marker::Model;
 use tk_events::{Pairs, Status};
-use tk_ids::{DType, Segment, Text};
+use tk_ids::{DType, Lock, Segment, Text};
 
-/// A lock that a node asks for.
+/// The locks that a node asks for, in the plan's order.
 #[derive(Debug, Drop)]
-pub struct Lock {
-    /// The name of the resource.
-    pub key: Text,
-    /// Whether the lock is for reading and writing, and not for reading alone.
-    pub writes: bool,
-}
-
-/// The locks of a node.
-#[derive(Debug, Drop)]
-pub struct Locks {
+pub struct NodeLocks {
     items: Vec<Lock>,
 }
 
-impl Model for Locks {
+impl Model for NodeLocks {
     ghost use Rattle.std.specs.Prelude.{List};
-    ghost use Rattle.tk_plan.specs.declared.trees.nodes.Lock.{Lock};
+    ghost use Rattle.tk_ids.specs.declared.locks.Lock.{Lock};
 
     ghost Value = { List Lock };
 
     ghost view = { λ l. l.items.items };
 }
 
-impl Locks {
+impl NodeLocks {
     /// These locks, in their order.
-    pub fn new(items: Vec<Lock>) -> Locks
+    pub fn new(items: Vec<Lock>) -> NodeLocks
         ensures { result ≡ items.items }
     {
-        Locks { items }
+        NodeLocks { items }
     }
 
     /// The locks, in their order.
@@ -121,7 +112,7 @@ pub struct Node {
     /// Whether nothing else may run beside the node.
     pub is_isolated: bool,
     /// The locks that the node asks for, in the plan's order.
-    pub locks: Locks,
+    pub locks: NodeLocks,
     /// Why the node is skipped, if it is.
     pub skip: Option<Text>,
     /// How the node finishes, if it isn't skipped.

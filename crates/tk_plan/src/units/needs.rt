@@ -7,8 +7,8 @@ ghost use Rattle.tk_plan.specs.LockNeeds.{over, at_resource, access_for, lock_as
 ghost use Rattle.tk_plan.specs.Trees.{contents};
 ghost use Rattle.tk_plan.specs.steps.MaskAccess.{access_of_masks};
 
-use crate::trees::nodes::{Lock, Node, NumberedNode};
-use tk_ids::Text;
+use crate::trees::nodes::{Node, NumberedNode};
+use tk_ids::{Lock, LockMode, Text};
 use tk_locks::Need;
 
 /// How many lock keys a plan has at most, save `global`.
@@ -47,18 +47,28 @@ fn resource(keys: &[Text], key: &str) -> Option<usize>
     Some(key_index(keys, key)? + 1)
 }
 
+/// How a node holds the resource of `global`.
+fn global_mode(is_isolated: bool) -> LockMode
+    ensures mode { result ≡ LockNeeds.global_mode is_isolated }
+{
+    if is_isolated {
+        LockMode::ReadWrite
+    } else {
+        LockMode::Read
+    }
+}
+
 impl NeedMasks {
-    fn mark(&mut self, resource: usize, is_write: bool)
+    fn mark(&mut self, resource: usize, mode: LockMode)
         requires { resource < 16 }
         ensures { (r : ℕ) → r < 16 → access_of_masks self.new r
             ≡ over (access_of_masks self.old r)
-            (at_resource (Some resource) (access_for is_write) r) }
+            (at_resource (Some resource) (access_for mode) r) }
     {
         let bit = 1u16 << resource;
-        if is_write {
-            self.writes |= bit;
-        } else {
-            self.reads |= bit;
+        match mode {
+            LockMode::Read => self.reads |= bit,
+            LockMode::ReadWrite => self.writes |= bit,
         }
     }
 
@@ -68,8 +78,8 @@ impl NeedMasks {
             ≡ over (access_of_masks self.old r) (lock_asks keys.now locks.now r) }
     {
         for lock in locks {
-            if let Some(resource) = resource(keys, lock.key.as_str()) {
-                self.mark(resource, lock.writes);
+            if let Some(resource) = resource(keys, lock.name.as_str()) {
+                self.mark(resource, lock.mode);
             }
         }
     }
@@ -79,7 +89,7 @@ impl NeedMasks {
         ensures { (r : ℕ) → r < 16 → access_of_masks self.new r
             ≡ over (access_of_masks self.old r) (node_asks keys.now node.now r) }
     {
-        self.mark(0, node.is_isolated);
+        self.mark(0, global_mode(node.is_isolated));
         self.mark_locks(keys, node.locks.as_slice());
     }
 }

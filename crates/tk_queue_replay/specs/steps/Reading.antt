@@ -2,13 +2,13 @@
 use Rattle.std.specs.Prelude.{◌≡◌, ◌≢◌, ◌+◌, ◌⊎◌, ℕ, List, [], ◌++◌, length, codes}
 use Rattle.tk_ids.specs.declared.descriptors.Descriptor.{Descriptor}
 use Rattle.tk_events.specs.declared.events.Entry.{Entry}
-use Rattle.tk_record_text.specs.Text.{with_line_feed, nodes_text, entries_text, AreNodes}
+use Rattle.tk_record_text.specs.Text.{with_line_feed, nodes_text, entries_text}
 use Rattle.tk_record_text.specs.NodeLines.{LacksNodeStart}
 use Rattle.tk_queue_replay.specs.declared.turns.Turn.{Turn}
 use Rattle.tk_queue_replay.specs.declared.replays.ReplayFault.{ReplayFault}
 use Rattle.tk_queue_replay.specs.declared.replays.ReplayFault.TheVariants as faults
 use Rattle.tk_queue_replay.specs.Script.{AreTurns, turns_line}
-use Rattle.tk_queue_replay.specs.ReplayText.{TextHead, AreOwn, IsBadAfter, NoCount}
+use Rattle.tk_queue_replay.specs.ReplayText.{TextHead, AreListed, AreOwn, IsBadAfter, NoCount}
 
 -- no line of an entry stands at the start
 abbrev pub LacksEntryStart : List ℕ → Type 0
@@ -36,7 +36,7 @@ IsListFault head input _ = ⊥
 -- the fault of a line after those of `nodes` descriptors
 abbrev pub IsFaultAfter : TextHead → ℕ → List ℕ → ReplayFault → Type 0
 IsFaultAfter head nodes input fault =
-    (table : List Descriptor) → AreNodes [] table → length table ≡ nodes
+    (table : List Descriptor) → AreListed table → length table ≡ nodes
     → IsListFault head (nodes_text table ++ input) fault
 
 -- the input is the lines of these entries, and then the line of these turns

@@ -3,6 +3,7 @@ use Rattle.tk_record.specs.Selections.{Selected}
 use Rattle.tk_query_conditions.specs.declared.conditions.Condition.{Condition}
 use Rattle.tk_explanations.specs.Collisions.{ExplainsExclusive}
 use Rattle.tk_explanations.specs.Explained.{IsExplained}
+use Rattle.tk_explanations.specs.LockCollisions.{ExplainsLocks}
 use Rattle.tk_explanations.specs.Lists.{ExplainsExecutions, ExplainsList}
 use Rattle.tk_explanations.specs.Statistics.{ExplainsStatistics}
 use Rattle.testkit_questions.specs.Answers.{events_where, picked}
@@ -54,3 +55,10 @@ returns-in_ok-events-in-Executions-clause-written g c = rw c.in-Executions.is (
 
 pub returns-in-Lifecycle-clause-written : goal.returns-in-Lifecycle-clause-written
 returns-in-Lifecycle-clause-written g c = rw c.in-Lifecycle.is c.explain_lifecycle.ensures.written
+
+pub returns-in_ok-events-in-Locks-clause-written : goal.returns-in_ok-events-in-Locks-clause-written
+returns-in_ok-events-in-Locks-clause-written g c = rw c.in-Locks.is (
+    subst (λ (s : Selected). IsExplained (ExplainsLocks s)
+    (g.T.Target.contents c.args.target.now) (g.T.Target.contents c.explain_locks.new.target)
+    c.explain_locks.result)
+    c.in_ok-events-in-Locks.ensures c.explain_locks.ensures.written)

@@ -10,5 +10,6 @@ returns c = lemma.answer_is_unique (record {
   executions = c.executions_is_unique.ensures;
   exclusive = c.exclusive_is_unique.ensures;
   lifecycle = c.lifecycle_is_unique.ensures;
+  locks = c.locks_is_unique.ensures;
   statistics = c.statistics_is_unique.ensures;
 })

@@ -5,10 +5,10 @@ use Rattle.tk_engine_execute.specs.Engines.{Extends}
 use Rattle.tk_engine_unit_events.specs.Endings.{payload_of}
 use Rattle.tk_engine_unit_events.specs.Refusals.{IsChildCause}
 use Rattle.tk_engine_unit_events.specs.UnitSteps.{UnitView, child_request}
-use Rattle.tk_engine_unit_events.proofs.UnitSteps.{if_err, on_ok}
+use Rattle.tk_engine_unit_events.proofs.UnitSteps.{both_err, if_err, on_ok}
 use Rattle.tk_engine_hierarchical.specs.Causes.{first_cause}
 use Rattle.tk_engine_hierarchical.specs.Reporting.{dynamic_start}
-use Rattle.tk_engine_hierarchical.proofs.Reported.{begun, both_err, ends_child, failed_begun}
+use Rattle.tk_engine_hierarchical.proofs.Reported.{begun, ends_child, failed_begun}
 use Rattle.tk_engine_hierarchical.proofs.Reported.{finish_noted, has_run_child}
 use Rattle.tk_engine_hierarchical.proofs.reporters.Reporter.run_child.Goals as goal
 
@@ -74,7 +74,7 @@ pub returns-in_err-key-clause-cause : goal.returns-in_err-key-clause-cause
 returns-in_err-key-clause-cause g c =
     let p = err_from_is_err_and c.from_residual.result c.from_residual.ensures.1 in
     rw (p.1, p.2)
-    (inl (subst (λ n. IsChildCause g.K.UnitRun.unit c.args.self.now.events
+    (inl (subst (λ n. IsChildCause g.C.Run.UnitRun.unit c.args.self.now.events
     (dynamic_start c.args.child.now n) c.in_err-key.field-0.0)
     c.stamp-stamp.ensures c.in_err-key.ensures.cause))
 

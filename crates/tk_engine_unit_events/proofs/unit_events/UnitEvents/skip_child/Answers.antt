@@ -5,12 +5,14 @@ use Rattle.tk_engine_execute.specs.Engines.{Extends}
 use Rattle.tk_engine_unit_events.specs.Refusals.{child_start}
 use Rattle.tk_engine_unit_events.specs.Running.{keys_of, with_id, with_ids}
 use Rattle.tk_engine_unit_events.specs.Standing.{StandsAt}
-use Rattle.tk_engine_unit_events.specs.UnitSteps.{UnitView, event}
+use Rattle.tk_engine_unit_events.specs.UnitSteps.{UnitView, child_request, event}
 use Rattle.tk_engine_unit_events.specs.declared.running_keys.RunningKey.{RunningKey}
 use Rattle.tk_engine_unit_events.proofs.Registered.{registers, stands_registered, stands_skipped}
 use Rattle.tk_engine_unit_events.proofs.UnitStates.{after_emit}
-use Rattle.tk_engine_unit_events.proofs.Taken.{is_noted, not_taken, runs_none, unregistered, unsent}
-use Rattle.tk_engine_unit_events.proofs.UnitSteps.{err_of, extends_child, extends_more}
+use Rattle.tk_engine_unit_events.proofs.Taken.{is_noted, left_registered, left_same, not_sent}
+use Rattle.tk_engine_unit_events.proofs.Taken.{not_taken, own_is_other, runs_none, unregistered}
+use Rattle.tk_engine_unit_events.proofs.Taken.{unsent}
+use Rattle.tk_engine_unit_events.proofs.UnitSteps.{both_err, err_of, extends_child, extends_more}
 use Rattle.tk_engine_unit_events.proofs.UnitSteps.{grew_registered, grew_same, if_err, if_err_then}
 use Rattle.tk_engine_unit_events.proofs.UnitSteps.{on_err, on_ok, same_view, skipped_child}
 use Rattle.tk_engine_unit_events.proofs.UnitSteps.{stands_same}
@@ -163,3 +165,43 @@ returns-clause-cause g c =
     (child_start c.args.child.now c.args.registered
     (λ key. event Skipped key c.args.stamp c.args.reason)) _ c.in_ok-key.key why
     c.in_ok-key.ensures.registration refused)
+
+pub returns-in_err-innermost-clause-refused : goal.returns-in_err-innermost-clause-refused
+returns-in_err-innermost-clause-refused g c =
+    let p = err_from_is_err_and c.from_residual.result c.from_residual.ensures.1 in
+    rw (p.1, p.2) (left_same _ _ (child_start c.args.child.now c.args.registered
+    (λ key. event Skipped key c.args.stamp c.args.reason)) _
+    (λ fault is. own_is_other (sym c.in_err-innermost.ensures.order ∙ is)) refl)
+
+pub returns-in_err-key-clause-refused : goal.returns-in_err-key-clause-refused
+returns-in_err-key-clause-refused g c =
+    let p = err_from_is_err_and c.from_residual-in_err-key.result
+    c.from_residual-in_err-key.ensures.1 in
+    rw (p.1, p.2) (left_same _ _ (child_start c.args.child.now c.args.registered
+    (λ key. event Skipped key c.args.stamp c.args.reason)) _
+    (not_sent (g.S.Sink.view c.self.inside.lease.sink.now)
+    (child_request c.args.child.now c.in_ok-innermost.innermost.now.key c.args.registered)
+    (with_id c.self.inside.shape.now.plan.table c.in_ok-innermost.innermost.now).id _
+    c.in_err-key.ensures.sink)
+    (same_view _ _ (c.in_err-key.ensures.err ∙ ap (λ (v : UnitView). v.sink) c.self.view_is)
+    (ap (λ (v : UnitView). v.running) c.self.view_is)
+    (ap (λ (v : UnitView). v.stamp) c.self.view_is)
+    (ap (λ (v : UnitView). v.own_stamp) c.self.view_is)))
+
+pub returns-clause-refused : goal.returns-clause-refused
+returns-clause-refused g c =
+    both_err _ _ c.emit.result c.emit.ensures.err c.emit.ensures.cause
+    (λ why same refused.
+    left_registered c.self.inside.shape.now g.K.UnitRun.unit _ c.args.self.now
+    c.self.inside.progress.running.elements _ c.in_ok-innermost.innermost.now
+    c.self.inside.progress.registered.keys c.self.inside.progress.next c.args.child.now.segment
+    c.self.invariant.1 c.self.invariant.2.running c.in_ok-innermost.ensures.top.1
+    (sym (ap (λ (v : UnitView). v.sink) c.self.view_is))
+    (sym (ap (λ (v : UnitView). v.running) c.self.view_is))
+    _ (child_start c.args.child.now c.args.registered
+    (λ key. event Skipped key c.args.stamp c.args.reason))
+    _ c.in_ok-key.key why c.in_ok-key.ensures.registration refused
+    (same_view _ _ same
+    (ap (λ (v : UnitView). v.running) c.self.view_is)
+    (ap (λ (v : UnitView). v.stamp) c.self.view_is)
+    (ap (λ (v : UnitView). v.own_stamp) c.self.view_is)))

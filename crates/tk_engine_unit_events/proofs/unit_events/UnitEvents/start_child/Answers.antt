@@ -5,11 +5,13 @@ use Rattle.tk_events.specs.declared.payloads.Payload.TheVariants.{Nothing}
 use Rattle.tk_engine_execute.specs.Engines.{Extends}
 use Rattle.tk_engine_unit_events.specs.Refusals.{child_start}
 use Rattle.tk_engine_unit_events.specs.Running.{keys_of, with_id, with_ids}
-use Rattle.tk_engine_unit_events.specs.UnitSteps.{UnitView, event}
+use Rattle.tk_engine_unit_events.specs.UnitSteps.{UnitView, child_request, event}
 use Rattle.tk_engine_unit_events.specs.declared.running_keys.RunningKey.{RunningKey}
 use Rattle.tk_engine_unit_events.proofs.Registered.{has_registered, registers, stands_registered}
 use Rattle.tk_engine_unit_events.proofs.Registered.{stands_started}
-use Rattle.tk_engine_unit_events.proofs.Taken.{is_noted, not_taken, runs_none, unregistered, unsent}
+use Rattle.tk_engine_unit_events.proofs.Taken.{is_noted, left_registered, left_same}
+use Rattle.tk_engine_unit_events.proofs.Taken.{memory_is_other, not_sent, not_taken, own_is_other}
+use Rattle.tk_engine_unit_events.proofs.Taken.{runs_none, unregistered, unsent}
 use Rattle.tk_engine_unit_events.proofs.UnitSteps.{err_of, extends_child, extends_more}
 use Rattle.tk_engine_unit_events.proofs.UnitSteps.{grew_registered, grew_same, same_view, stands_at}
 use Rattle.tk_engine_unit_events.proofs.UnitSteps.{stands_same, started_child}
@@ -230,3 +232,64 @@ returns-in_err-emit-clause-cause g c =
     (sym (ap (λ (v : UnitView). v.running) c.self.view_is))
     (child_start c.args.child.now c.args.registered (λ key. event Started key c.args.stamp Nothing))
     _ c.in_ok-key.key _ c.in_ok-key.ensures.registration c.in_err-emit.ensures.cause)
+
+pub returns-in_err-reserve-clause-refused : goal.returns-in_err-reserve-clause-refused
+returns-in_err-reserve-clause-refused g c =
+    let p = err_from_is_err_and c.from_residual.result c.from_residual.ensures.1 in
+    rw (p.1) (left_same _ _ (child_start c.args.child.now c.args.registered
+    (λ key. event Started key c.args.stamp Nothing)) _
+    (λ fault is. memory_is_other (sym p.2 ∙ is))
+    (same_view _ _ (ap (λ (v : UnitView). v.sink) c.self.view_is)
+    (ap (λ (l : List RunningKey). keys_of (with_ids g.K.UnitRun.unit.frame.table l))
+    c.reserve.ensures.same ∙ ap (λ (v : UnitView). v.running) c.self.view_is)
+    (ap (λ (v : UnitView). v.stamp) c.self.view_is)
+    (ap (λ (v : UnitView). v.own_stamp) c.self.view_is)))
+
+pub returns-in_err-innermost-clause-refused : goal.returns-in_err-innermost-clause-refused
+returns-in_err-innermost-clause-refused g c =
+    let p = err_from_is_err_and c.from_residual-in_err-innermost.result
+    c.from_residual-in_err-innermost.ensures.1 in
+    rw (p.1) (left_same _ _ (child_start c.args.child.now c.args.registered
+    (λ key. event Started key c.args.stamp Nothing)) _
+    (λ fault is. own_is_other (sym (p.2 ∙ c.in_err-innermost.ensures.order) ∙ is))
+    (same_view _ _ (ap (λ (v : UnitView). v.sink) c.self.view_is)
+    (ap (λ (l : List RunningKey). keys_of (with_ids g.K.UnitRun.unit.frame.table l))
+    c.reserve.ensures.same ∙ ap (λ (v : UnitView). v.running) c.self.view_is)
+    (ap (λ (v : UnitView). v.stamp) c.self.view_is)
+    (ap (λ (v : UnitView). v.own_stamp) c.self.view_is)))
+
+pub returns-in_err-key-clause-refused : goal.returns-in_err-key-clause-refused
+returns-in_err-key-clause-refused g c =
+    let p = err_from_is_err_and c.from_residual-in_err-key.result
+    c.from_residual-in_err-key.ensures.1 in
+    rw (p.1, p.2) (left_same _ _ (child_start c.args.child.now c.args.registered
+    (λ key. event Started key c.args.stamp Nothing)) _
+    (not_sent (g.S.Sink.view c.self.inside.lease.sink.now)
+    (child_request c.args.child.now c.in_ok-innermost.innermost.now.key c.args.registered)
+    (with_id c.self.inside.shape.now.plan.table c.in_ok-innermost.innermost.now).id _
+    c.in_err-key.ensures.sink)
+    (same_view _ _ (c.in_err-key.ensures.err ∙ ap (λ (v : UnitView). v.sink) c.self.view_is)
+    (ap (λ (l : List RunningKey). keys_of (with_ids g.K.UnitRun.unit.frame.table l))
+    c.reserve.ensures.same ∙ ap (λ (v : UnitView). v.running) c.self.view_is)
+    (ap (λ (v : UnitView). v.stamp) c.self.view_is)
+    (ap (λ (v : UnitView). v.own_stamp) c.self.view_is)))
+
+pub returns-in_err-emit-clause-refused : goal.returns-in_err-emit-clause-refused
+returns-in_err-emit-clause-refused g c =
+    let p = err_from_is_err_and c.from_residual-in_err-emit.result
+    c.from_residual-in_err-emit.ensures.1 in
+    rw (p.1, p.2) (left_registered c.self.inside.shape.now g.K.UnitRun.unit _ c.args.self.now
+    c.self.inside.progress.running.elements _ c.in_ok-innermost.innermost.now
+    c.self.inside.progress.registered.keys c.self.inside.progress.next c.args.child.now.segment
+    c.self.invariant.1 c.self.invariant.2.running
+    (sym c.reserve.ensures.same ∙ c.in_ok-innermost.ensures.top.1)
+    (sym (ap (λ (v : UnitView). v.sink) c.self.view_is))
+    (sym (ap (λ (v : UnitView). v.running) c.self.view_is))
+    _ (child_start c.args.child.now c.args.registered
+    (λ key. event Started key c.args.stamp Nothing))
+    _ c.in_ok-key.key _ c.in_ok-key.ensures.registration c.in_err-emit.ensures.cause
+    (same_view _ _ c.in_err-emit.ensures.err
+    (ap (λ (l : List RunningKey). keys_of (with_ids g.K.UnitRun.unit.frame.table l))
+    c.reserve.ensures.same ∙ ap (λ (v : UnitView). v.running) c.self.view_is)
+    (ap (λ (v : UnitView). v.stamp) c.self.view_is)
+    (ap (λ (v : UnitView). v.own_stamp) c.self.view_is)))

@@ -1,5 +1,7 @@
-use Rattle.std.proofs.Common.{arith}
+use Rattle.std.proofs.Common.{arith, subst, sym}
+use Rattle.tk_ids.specs.Table.{HasParents, HaveLocks}
 use Rattle.tk_ids.proofs.TableLemmas.{grown, IsGrown}
+use Rattle.tk_ids.proofs.TableLockLemmas.{parents_push, locks_push}
 use Rattle.tk_ids.proofs.tables.Table.push.Goals as goal
 use Rattle.tk_ids.proofs.tables.Table.push.Goals.{In_ok-insert}
 
@@ -11,7 +13,13 @@ entries c =
     rw c.in_ok-insert.ensures.entries g
 
 pub invariant_of-self-2 : goal.invariant_of-self-2
-invariant_of-self-2 c = let e = entries (goal.at.invariant_of-self-2 c).In_ok-insert in let count = e.count in (e.kept, omega (arith, c.requires.room))
+invariant_of-self-2 c =
+    let e = entries (goal.at.invariant_of-self-2 c).In_ok-insert in
+    let count = e.count in
+    let invariant = c.self.invariant in
+    let parents = subst HasParents (sym e.view) (parents_push c.args.self.now c.args.descriptor (subst HasParents c.self.view_is invariant.2) c.requires.parent) in
+    let locks = subst HaveLocks (sym e.view) (locks_push c.args.self.now c.args.descriptor (subst HaveLocks c.self.view_is invariant.3) c.shows_order.ensures) in
+    (e.kept, omega (arith, c.requires.room), parents, locks)
 
 pub returns-clause-ok : goal.returns-clause-ok
 returns-clause-ok c = (entries (goal.at.returns-clause-ok c).In_ok-insert).view

@@ -1,0 +1,185 @@
+//! What tests expect of the record of two tests, and what a failure shows.
+use std::alloc::Global;
+use std::process::Abort;
+use test_support::{is_debugged_as, two_tests, two_tests_report};
+use tk_expectations::{Expect, Failure};
+use tk_record::Selection;
+use tk_record_text::read_record;
+use tk_streams::ByteSource;
+
+#[test]
+fn expectations_that_are_met_are_a_chain(rt: HostRuntime) -> Result<(), Failure> {
+    let alloc = rt.alloc();
+    let recorded = read_record(alloc, &mut ByteSource::new(two_tests()))?;
+    Expect::of(alloc, &recorded)
+        .lifecycle()?
+        .loosely(&["failed(boom)", "skipped(off)"])?
+        .exclusive_with("name(one)", "name(two)")
+        .is_ok();
+    Expect::of(alloc, &recorded)
+        .pick(Selection::Tests)
+        .stats("started=1 failed=1")?
+        .exactly(&["started", "failed(boom)", "skipped(off)"])?
+        .in_order(&["started", "failed"])?
+        .report(str::from_utf8(two_tests_report())?)?;
+    Ok(())
+}
+
+// Asserts that this is shown of an expectation that is not met.
+fn assert_shown<R: Abort>(
+    rt: &R,
+    alloc: Global,
+    expected: Result<Expect<'_>, Failure>,
+    text: &str,
+) {
+    match expected {
+        Ok(_) => assert!(rt; false, "it is met"),
+        Err(failure) => {
+            let is_shown = is_debugged_as(alloc, &failure, text);
+            assert!(rt; is_shown, "{failure:?}");
+        }
+    }
+}
+
+#[test]
+fn what_is_not_met_is_explained(rt: HostRuntime) -> Result<(), Failure> {
+    let alloc = rt.alloc();
+    let recorded = read_record(alloc, &mut ByteSource::new(two_tests()))?;
+    let expect = Expect::of(alloc, &recorded);
+    assert_shown(
+        &rt,
+        alloc,
+        expect.in_order(&["succeeded", "all(test,started)"]),
+        "no 1
+0 succeeded
+    4: E|0|0|9|finish|ok   [engine:e] \"e\"
+1 all(test,started)
+    1: E|1|1|1|start   [engine:e]/[t:1] \"one\"   holds, but is not after 4
+    no event is left
+all events of these descriptors:
+    0 E|0|0|0|start   [engine:e] \"e\"
+    4 E|0|0|9|finish|ok   [engine:e] \"e\"
+    1 E|1|1|1|start   [engine:e]/[t:1] \"one\"
+    2 E|1|1|2|finish|fail|boom   [engine:e]/[t:1] \"one\"
+",
+    );
+    assert_shown(
+        &rt,
+        alloc,
+        expect.exclusive("all(test,id(databse))"),
+        "no pair\n0 all(test,id(databse))\n    0 executions\n",
+    );
+    assert_shown(
+        &rt,
+        alloc,
+        expect.locks(),
+        "no pair\n0 executions hold a lock\n",
+    );
+    assert_shown(
+        &rt,
+        alloc,
+        expect.pick(Selection::Tests).stats("failed=2 started=1"),
+        "skipped 1
+started 1
+finished 1
+aborted 0
+succeeded 0
+failed 1
+reporting 0
+dynamic 0
+files 0
+mismatch failed expected 2 actual 1
+    2: E|1|1|2|finish|fail|boom   [engine:e]/[t:1] \"one\"
+not counted as failed:
+",
+    );
+    Ok(())
+}
+
+#[test]
+fn reports_that_differ_are_shown(rt: HostRuntime) -> Result<(), Failure> {
+    let alloc = rt.alloc();
+    let recorded = read_record(alloc, &mut ByteSource::new(two_tests()))?;
+    let expected = "skipped 1
+started 2
+finished 2
+aborted 0
+succeeded 1
+failed 1
+reporting 0
+dynamic 0
+files 0
+[engine:e]
+  start
+  finish|ok
+[engine:e]/[t:1]
+  start
+  finish|ok
+[engine:e]/[t:2]
+  skip|off
+";
+    assert_shown(
+        &rt,
+        alloc,
+        Expect::of(alloc, &recorded).report(expected),
+        "--- expected
++++ actual
+@@ -12,6 +12,6 @@
+   finish|ok
+ [engine:e]/[t:1]
+   start
+-  finish|ok
++  finish|fail|boom
+ [engine:e]/[t:2]
+   skip|off
+",
+    );
+    Ok(())
+}
+
+#[test]
+fn bad_texts_say_what_may_stand(rt: HostRuntime) -> Result<(), Failure> {
+    let alloc = rt.alloc();
+    let recorded = read_record(alloc, &mut ByteSource::new(two_tests()))?;
+    let expect = Expect::of(alloc, &recorded);
+    let rows = [
+        (
+            "all(tesx)",
+            "condition 0 is bad at 7: all(tesx)\nafter 'all(tes' may stand: test\n",
+        ),
+        (
+            "all(test",
+            "condition 0 is bad at 8: all(test\nafter 'all(test' may stand: , )\n",
+        ),
+        (
+            "skip",
+            "condition 0 is bad at 4: skip\nafter 'skip' may stand: skipped(\n",
+        ),
+        (
+            "kind(begin)",
+            "condition 0 is bad at 5: kind(begin)\nafter 'kind(' may stand: dynamic) skip) start) finish) report) file)\n",
+        ),
+        (
+            "id(adds(int))",
+            "condition 0 is bad at 7: id(adds(int))\nafter 'id(adds' may stand: a character of a text, where ( ) , % are %28 %29 %2C %25; )\n",
+        ),
+        (
+            "name(a%20b)",
+            "condition 0 is bad at 8: name(a%20b)\nafter 'name(a%2' may stand: an escape: %25 %28 %29 %2C\n",
+        ),
+        (
+            "test,failed",
+            "condition 0 is bad at 4: test,failed\nafter 'test' may stand: the end of the text\n",
+        ),
+    ];
+    for (condition, text) in rows {
+        assert_shown(&rt, alloc, expect.loosely(&[condition]), text);
+    }
+    assert_shown(
+        &rt,
+        alloc,
+        expect.stats("started=2 faild=1"),
+        "word 1 is bad: started=2 faild=1\na word is NAME=N, and NAME, each once, one of skipped started finished aborted succeeded failed reporting dynamic files\n",
+    );
+    Ok(())
+}

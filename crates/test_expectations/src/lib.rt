@@ -1,0 +1,5 @@
+//! What tests expect of records, and what a failure shows.
+#![tactic(auto)]
+
+#[cfg(test)]
+mod expectations;

@@ -1,0 +1,5 @@
+//! Tests of meetings of two bodies.
+#![tactic(auto)]
+
+#[cfg(test)]
+mod meetings;

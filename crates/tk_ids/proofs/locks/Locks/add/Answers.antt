@@ -1,0 +1,20 @@
+use Rattle.std.proofs.Common.{rules, ◌≡◌, ℕ, List}
+use Rattle.tk_ids.specs.declared.locks.Lock.{Lock}
+use Rattle.tk_ids.specs.steps.Locks.{added}
+use Rattle.std.specs.List.Sorted.{IsStrictlySortedBy}
+use Rattle.tk_ids.specs.Locks.{mode_of, mode_with}
+use Rattle.tk_ids.proofs.LockLemmas.{none_are, are_added, mode_added}
+use Rattle.tk_ids.proofs.locks.Locks.add.Goals as goal
+
+pub invariant_of-self-in_ok-new-in-None-2 : goal.invariant_of-self-in_ok-new-in-None-2
+unfolding IsStrictlySortedBy
+invariant_of-self-in_ok-new-in-None-2 c = rw (c.in_ok-new-in-None.ensures.ok, c.in_ok-vec-in-None.ensures.items) (are_added _ c.args.lock none_are c.requires)
+
+pub invariant_of-self-in_ok-add_to-in-Some : goal.invariant_of-self-in_ok-add_to-in-Some
+invariant_of-self-in_ok-add_to-in-Some c = rw c.in_ok-add_to-in-Some.ensures.ok (are_added _ c.args.lock (search rules) c.requires)
+
+pub returns-in_ok-add_to-in-Some-clause-ok : goal.returns-in_ok-add_to-in-Some-clause-ok
+returns-in_ok-add_to-in-Some-clause-ok c = λ name. rw (c.in_ok-add_to-in-Some.ensures.ok) (by c.deref_mut.result.now.items (search rules) name)
+  where
+    by : (held : List Lock) → held ≡ c.args.self.now → (name : List ℕ) → mode_of (added held c.args.lock) name ≡ mode_with c.args.self.now c.args.lock name
+    by held is name = rw is (mode_added c.args.self.now c.args.lock name (search rules))

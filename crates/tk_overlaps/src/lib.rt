@@ -1,0 +1,6 @@
+//! How bodies of tests overlap on purpose.
+#![tactic(auto)]
+
+mod meetings;
+
+pub use meetings::Meeting;

@@ -1,0 +1,14 @@
+use Rattle.std.proofs.Common.{◌≡◌, sym, ap, ◌∙◌}
+use Rattle.std.specs.Prelude.{unwrap_or}
+use Rattle.indexmap.specs.IndexSet.{index_set_len}
+use Rattle.tk_query_locks.specs.steps.Numbers.{number_of}
+use Rattle.tk_query_locks.proofs.lock_numbers.LockNumbers.number.Goals as goal
+
+pub returns-in-Some : goal.returns-in-Some
+unfolding number_of
+returns-in-Some c = ap (λ o. unwrap_or o (index_set_len c.args.self.now.names)) c.in-Some.ensures.index
+
+pub returns-in-None : goal.returns-in-None
+unfolding number_of
+returns-in-None c =
+    c.len.ensures.len ∙ ap (λ o. unwrap_or o (index_set_len c.args.self.now.names)) c.in-None.ensures.index
