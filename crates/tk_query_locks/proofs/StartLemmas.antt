@@ -44,7 +44,7 @@ position_within test xs = by (nat_lt (position_or_len test xs) (length xs)) refl
     by true below = let lt = ltb-true (position_or_len test xs) (length xs) below in omega arith
     by false past = omega arith
 
--- a number is at most that of the names that no descriptor holds
+-- a number is at most that of the names that no descriptor holds for writing
 pub number_within : (numbers : LockNumbers) (name : List ℕ) → number_of numbers name ≤ index_set_len numbers.names
 unfolding number_of
 number_within numbers name = position_within (λ k. bytes_eq name (string_bytes k)) numbers.names.keys

@@ -1,25 +1,40 @@
 //! Finishes past which no execution starts.
-ghost use Rattle.std.specs.Prelude.{◌≡◌, IfOk, map};
-ghost use Rattle.tk_query_locks.specs.steps.Finishes.{AreEndless, never};
+ghost use Rattle.std.specs.Prelude.{◌≡◌, IfOk};
+ghost use Rattle.tk_query_locks.specs.steps.Finishes.{AreEndless, IsNoted, endless_finish};
 
+use crate::start_lists::finish_at;
+use indexmap::IndexSet;
 use std::alloc::{AllocError, Global};
 use tk_record::Record;
 
-/// A finish that is never reached, or 0 where there is none.
-fn never(finish: usize) -> usize
-    ensures { result ≡ never finish }
+/// Whether an execution starts at a position, the first of its key, which is noted.
+fn is_first_of_key(
+    keys: &mut IndexSet<u32>,
+    record: &Record,
+    finishes: &[usize],
+    start: usize,
+) -> Result<bool, AllocError>
+    ensures { IfOk result (IsNoted «record».now finishes.now keys.old keys.new start) }
 {
-    if finish == 0 { 0 } else { usize::MAX }
+    if finish_at(finishes, start) == 0 {
+        return Ok(false);
+    }
+    let Some(key) = record.keys().get(start) else {
+        return Ok(true);
+    };
+    let is_new = keys.insert(*key)?;
+    Ok(is_new)
 }
 
-fn all_never(alloc: Global, finishes: &[usize]) -> Result<Vec<usize>, AllocError>
-    ensures { IfOk result (λ list. list.items ≡ map never finishes.now) }
+/// A finish that is never reached for the first execution of a key, and 0 for each other start.
+fn endless_finish(is_first: bool) -> usize
+    ensures { result ≡ endless_finish is_first }
 {
-    finishes.iter().map(|finish| never(*finish)).collect(alloc)
+    if is_first { usize::MAX } else { 0 }
 }
 
-/// Under the start of each execution a finish that is never reached, and 0 elsewhere, where
-/// `finishes` has the finish of each execution under its start.
+/// Under the first start of an execution of each key a finish that is never reached, and 0
+/// elsewhere, where `finishes` has the finish of each execution under its start.
 pub(crate) fn endless(
     alloc: Global,
     record: &Record,
@@ -29,6 +44,11 @@ pub(crate) fn endless(
 {
     // For the proof: a record has fewer entries than a position can count.
     let _len = record.len();
-    let list = all_never(alloc, finishes)?;
+    let mut keys = IndexSet::new(alloc);
+    let mut list = Vec::new(alloc);
+    for start in 0..finishes.len() {
+        let is_first = is_first_of_key(&mut keys, record, finishes, start)?;
+        list.push(endless_finish(is_first))?;
+    }
     Ok(list)
 }

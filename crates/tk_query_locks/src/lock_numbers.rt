@@ -4,9 +4,10 @@ ghost use Rattle.tk_query_locks.specs.steps.Numbers.{number_of};
 
 use indexmap::IndexSet;
 use std::alloc::{AllocError, Global};
-use tk_ids::{Descriptor, Table};
+use tk_ids::{Descriptor, LockMode, Table};
 
-/// A number for the name of each lock that a static descriptor holds.
+/// A number for the name of each lock that a static descriptor holds for writing: executions that
+/// only read a lock don't conflict over it.
 #[derive(Drop)]
 pub(crate) struct LockNumbers {
     names: IndexSet<String>,
@@ -26,17 +27,20 @@ impl LockNumbers {
     fn add(&mut self, alloc: Global, descriptor: &Descriptor) -> Result<(), AllocError> {
         for lock in descriptor.locks.as_slice() {
             let name = lock.name.as_str();
-            if !self.names.contains(name) {
+            if matches!(lock.mode, LockMode::ReadWrite) && !self.names.contains(name) {
                 self.names.insert(String::from_str(alloc, name)?)?;
             }
         }
         Ok(())
     }
 
-    /// The number of a name. All that no static descriptor holds have one number.
+    /// The number of a name. All that no static descriptor holds for writing have one number.
     pub(crate) fn number(&self, name: &str) -> usize
         ensures { result ≡ number_of self.now name.now }
     {
+        if self.names.is_empty() {
+            return 0;
+        }
         match self.names.get_index_of(name) {
             Some(index) => index,
             None => self.names.len(),
