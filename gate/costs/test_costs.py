@@ -207,6 +207,11 @@ def held_and_never_finished() -> bytes:
     return repeated(begin, "E|1|2|7|start\n")()
 
 
+def held_again_and_again() -> bytes:
+    """A test that writes a lock and runs again and again."""
+    return repeated(held([(1, "W", "db")], 1, "n").decode(), events("start", "finish|ok", keys=[1]))()
+
+
 BEGIN, END = events("start", keys=[0]), events("finish|ok", keys=[0])
 """The start and the finish of the engine."""
 
@@ -321,6 +326,7 @@ ROWS = [
     row("record/locks, global beside 60,000 tests", "ask locks", one_global, Costs(0.6, 33_400, 288_280, 246, 2), "yes\n"),
     row("record/locks, global and another above 60,000 tests", "ask locks", locks_above, Costs(0.7, 36_700, 432_320, 239, 2), "no pair\n"),
     row("record/locks of starts that never finish", "ask locks", held_and_never_finished, Costs(0.7, 71_900, 210, 258, 2), "yes\n"),
+    row("record/locks of a test that runs again and again", "ask locks", held_again_and_again, Costs(0.7, 44_500, 210, 258, 2), "no pair\n"),
     row("record/list of all", "ask list all", EVENTS, Costs(0.8, 25_000, 190, 312, 442), "0 E|1|0|7|start\n1 E|1|0|8|finish|ok\n"),
     row("record/list by 100 conditions", "ask list all" + 99 * " started" + " not(started)", EVENTS, Costs(0.8, 25_000, 570, 312, 0), ""),
     row("record/lifecycle of 65,000 tests", "ask lifecycle", tests_of_an_engine, Costs(1.5, 29_300, 469_000, 285, 2), "yes\n"),
@@ -493,6 +499,7 @@ LOCKED = [
     ("global beside 60,000 tests", one_global),
     ("global and another above 60,000 tests", locks_above),
     ("starts that never finish", held_and_never_finished),
+    ("a test that runs again and again", held_again_and_again),
 ]
 """Records of which `ask locks` is asked."""
 
