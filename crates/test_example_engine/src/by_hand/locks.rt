@@ -17,7 +17,7 @@ struct TestsThatMeet {
 
 impl Units for TestsThatMeet {
     fn run<C: UnitContext>(&self, unit: u32, events: &mut Emitter<C>) -> Result<(), UnitFault> {
-        let key = unit + 1;
+        let key = unit.saturating_add(1);
         events.start(key)?;
         let _came = self.meeting.wait(events.rt());
         events.succeed(key)
@@ -54,10 +54,11 @@ fn answer<R: Threads + Wait + Sync>(
 #[test]
 fn a_forgotten_lock_is_found(rt: HostRuntime) {
     let found = answer(&rt, rt.alloc(), Need::of(0, 0), Duration::from_secs(20));
-    let is_named = match found {
+    let is_named = match &found {
         Some(LockAnswer::No(1, 2, name)) => name.as_str() == "db",
         _ => false,
     };
+    drop(found);
     assert!(rt; is_named);
 }
 
