@@ -322,7 +322,7 @@ ROWS = [
     row("record/locks, none", "ask locks", EVENTS, Costs(0.7, 44_500, 190, 258, 2), "no pair\n"),
     row("record/locks, 20,000 readers of one", "ask locks", one_lock_read, Costs(0.4, 26_800, 120_260, 240, 2), "yes\n"),
     row("record/locks, 4,000 of sixteen tests each", "ask locks", many_locks, Costs(0.7, 36_300, 398_730, 232, 2), "yes\n"),
-    row("record/locks, 4,000 of each of 100 tests", "ask locks", many_locks_of_each, Costs(0.7, 44_000, 544_400, 258, 2), "no pair\n"),
+    row("record/locks, 4,000 of each of 100 tests", "ask locks", many_locks_of_each, Costs(0.7, 44_000, 482_000, 258, 2), "no pair\n"),
     row("record/locks, global beside 60,000 tests", "ask locks", one_global, Costs(0.6, 33_400, 288_280, 246, 2), "yes\n"),
     row("record/locks, global and another above 60,000 tests", "ask locks", locks_above, Costs(0.7, 36_700, 432_320, 239, 2), "no pair\n"),
     row("record/locks of starts that never finish", "ask locks", held_and_never_finished, Costs(0.7, 71_900, 210, 258, 2), "yes\n"),
