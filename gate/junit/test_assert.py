@@ -8,7 +8,7 @@ import java
 from records import HEADER, entries
 from test_listener import WithClasses as Compiled
 
-TESTS = 22
+TESTS = 23
 """How many tests RecordAssertTests has."""
 
 REAL = fixtures.PROGRAM if os.access(fixtures.PROGRAM, os.X_OK) else ""

@@ -67,14 +67,34 @@ public final class ResultsAssert {
 
     /** Begins assertions about results, whose record is written to a temporary file at the first call. */
     public static RecordAssert assertThat(EngineExecutionResults results) {
+        for (Reference<?> gone = GONE.poll(); gone != null; gone = GONE.poll()) {
+            delete((Recorded) gone);
+        }
+        Recorded recorded = recorded(results);
+        return new RecordAssert(new Source(results, recorded), "all", "");
+    }
+
+    /** Returns the record of results. It is written without our lock, since an engine's code runs then, and what is said is said. */
+    private static Recorded recorded(EngineExecutionResults results) {
         synchronized (RECORDED) {
-            for (Reference<?> gone = GONE.poll(); gone != null; gone = GONE.poll()) {
-                Path path = ((Recorded) gone).path;
-                if (TEMPORARY.remove(path)) {
-                    path.toFile().delete();
-                }
+            if (RECORDED.containsKey(results)) {
+                return RECORDED.get(results);
             }
-            return new RecordAssert(new Source(results, RECORDED.computeIfAbsent(results, ResultsAssert::record)), "all", "");
+        }
+        Recorded made = record(results);
+        synchronized (RECORDED) {
+            if (RECORDED.putIfAbsent(results, made) == null) {
+                return made;
+            }
+        }
+        // (another thread was first)
+        delete(made);
+        return recorded(results);
+    }
+
+    private static void delete(Recorded recorded) {
+        if (TEMPORARY.remove(recorded.path)) {
+            recorded.path.toFile().delete();
         }
     }
 

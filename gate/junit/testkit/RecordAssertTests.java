@@ -25,7 +25,9 @@ import static testkit.RecordAssert.Conditions.not;
 import static testkit.RecordAssert.Conditions.wasAborted;
 import static testkit.RecordAssert.Conditions.wasSkipped;
 
+import java.io.ByteArrayOutputStream;
 import java.io.IOException;
+import java.io.PrintStream;
 import java.io.UncheckedIOException;
 import java.lang.reflect.Method;
 import java.nio.charset.Charset;
@@ -113,7 +115,7 @@ class RecordAssertTests {
         found.put("ask explain stats all failed=1 skipped=0", it -> it.hasStatistics("failed=1", "skipped=0"));
         found.put("ask explain all exactly a b", it -> it.matchesExactly("a", "b"));
         found.put("ask explain tests loosely c", it -> it.tests().matchesLoosely("c"));
-        found.put("ask explain failed in-order d e f", it -> it.on("failed").matchesInOrder("d", "e", "f"));
+        found.put("ask explain failed in-order d e f", it -> it.on("failed").describedAs("run 1").matchesInOrder("d", "e", "f"));
         found.put("ask explain exclusive g", it -> it.exclusive("g"));
         found.put("ask explain exclusive h i", it -> it.containers().exclusive("h", "i"));
         found.put("ask explain locks", it -> it.tests().keepsLocks());
@@ -144,14 +146,31 @@ class RecordAssertTests {
         program("echo 0 a; echo 3 b");
         RecordAssert asserting = RecordAssert.assertThat(record).tests().hasCount(2, "x");
         assertEquals("ask explain list tests x", String.join(" ", words("program")));
-        Error fault = assertThrows(AssertionFailedError.class, () -> asserting.hasCount(1, "x"));
-        assertEquals("1 events wanted, 2 found: " + folder.resolve("program") + " ask explain list tests x < " + record + "\n0 a\n3 b", fault.getMessage());
+        for (int count : new int[] {1, 3}) {
+            Error fault = assertThrows(AssertionFailedError.class, () -> asserting.hasCount(count, "x"));
+            String asked = folder.resolve("program") + " ask explain list tests x < " + record;
+            assertEquals(count + " events wanted, 2 found: " + asked + "\n0 a\n3 b", fault.getMessage());
+        }
         assertEquals(Arrays.asList("0 a", "3 b"), asserting.list());
         assertEquals("ask explain list tests", String.join(" ", words("program")));
+        assertEquals("0 a\n3 b\n", printed(asserting::debug));
+        assertEquals("ask explain list tests", String.join(" ", words("program")));
         program("true");
-        assertEquals(Collections.emptyList(), asserting.hasCount(0, "x").debug().list("x", "y"));
+        assertEquals(Collections.emptyList(), asserting.hasCount(0, "x").list("x", "y"));
         program("echo 0 a", "exit 1");
         assertThrows(IllegalStateException.class, () -> asserting.hasCount(1, "x"));
+    }
+
+    private static String printed(Runnable step) {
+        PrintStream output = System.out;
+        ByteArrayOutputStream printed = new ByteArrayOutputStream();
+        System.setOut(new PrintStream(printed, true));
+        try {
+            step.run();
+        } finally {
+            System.setOut(output);
+        }
+        return printed.toString();
     }
 
     /** The command of a message does in a shell what the assertion did. */
@@ -172,8 +191,11 @@ class RecordAssertTests {
     void aConditionHasOneNumber() throws IOException {
         for (int word : new int[] {2, 3}) {
             program("echo 'testkit: condition " + word + " is bad at 3' >&2", "exit 2");
-            RuntimeException fault = assertThrows(IllegalArgumentException.class, () -> RecordAssert.assertThat(record).matchesExactly("a", "b"));
-            assertTrue(fault.getMessage().endsWith(" is refused: condition " + (word - 2) + " is bad at 3"), fault.getMessage());
+            RecordAssert asserting = RecordAssert.assertThat(record);
+            for (Runnable asked : new Runnable[] {() -> asserting.matchesExactly("a", "b"), () -> asserting.list("a", "b")}) {
+                RuntimeException fault = assertThrows(IllegalArgumentException.class, asked::run);
+                assertTrue(fault.getMessage().endsWith(" is refused: condition " + (word - 2) + " is bad at 3"), fault.getMessage());
+            }
         }
         program("echo 'testkit: condition 2 is too deep' >&2", "exit 2");
         RuntimeException fault = assertThrows(IllegalArgumentException.class, () -> RecordAssert.assertThat(record).exclusive("a", "b"));
@@ -314,6 +336,31 @@ class RecordAssertTests {
         List<String> lines = Files.readAllLines(folder.resolve("program.input"));
         assertEquals(Arrays.asList("testkit-record|2", "N|C|[engine:e]|engine", "N|T|[engine:e]/[t:1]|one"), lines.subList(0, 3));
         assertTrue(lines.get(3).matches("E[|]1[|]0[|][0-9]{16}[|]skip[|]off") && lines.size() == 4, lines.get(3));
+    }
+
+    /** An engine's code, which runs while results are recorded, may wait for another thread that asserts something about others. */
+    @Test
+    void resultsAreRecordedWithoutALock() throws IOException {
+        program("echo yes");
+        EngineExecutionResults others = results((calls, root) -> calls.skip(root, "off"));
+        Thread other = new Thread(() -> ResultsAssert.assertThat(others));
+        RuntimeException waiting = new IllegalStateException() {
+
+            private static final long serialVersionUID = 1;
+
+            @Override
+            public String getMessage() {
+                other.start();
+                try {
+                    other.join(5_000);
+                } catch (InterruptedException fault) {
+                    throw new IllegalStateException(fault);
+                }
+                return "waits " + other.isAlive();
+            }
+        };
+        Path path = ResultsAssert.assertThat(results((calls, root) -> calls.fail(root, waiting))).recordPath();
+        assertTrue(text(path).endsWith("|finish|fail|waits false\n"), text(path));
     }
 
     /** (The records of results that are not refused go when the process ends, which {@code test_assert.py} sees.) */
