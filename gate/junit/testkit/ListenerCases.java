@@ -13,6 +13,7 @@ import java.net.URLClassLoader;
 import java.nio.file.Files;
 import java.nio.file.Path;
 import java.nio.file.Paths;
+import java.nio.file.StandardOpenOption;
 import java.time.Instant;
 import java.time.temporal.ChronoUnit;
 import java.util.ArrayList;
@@ -247,6 +248,18 @@ public class ListenerCases {
         room.fact("whole", listener.isWhole());
     }
 
+    /** Leaves whether another thread can ask the listener now, so that nobody has its lock. */
+    static void isFree(Room room, RecordListener listener) {
+        Thread other = new Thread(listener::isWhole);
+        other.start();
+        try {
+            other.join(5_000);
+        } catch (InterruptedException fault) {
+            throw new IllegalStateException(fault);
+        }
+        room.fact("free", !other.isAlive());
+    }
+
     /** Adds a test. */
     private static void oneTest(Node root) {
         root.add("t", "1", "one", Type.TEST);
@@ -330,6 +343,21 @@ public class ListenerCases {
             calls.skip(root.child(6), null);
             calls.abort(root, null);
         });
+    }
+
+    /** A message that is asked for while another thread has the listener. */
+    private static void askedMessage(Room room) {
+        RecordListener listener = new RecordListener(room.path());
+        launch(listener, ListenerCases::oneTest, (calls, root) -> calls.fail(root, new Unreadable() {
+
+            private static final long serialVersionUID = 1;
+
+            @Override
+            public String getMessage() {
+                isFree(room, listener);
+                return "m";
+            }
+        }));
     }
 
     /** Entries of no pair, and of keys in no order: byte order and that of Java's strings differ for the last two. */
@@ -569,6 +597,7 @@ public class ListenerCases {
         RecordListener listener = new RecordListener();
         launch(listener, Collections.emptyMap(), oneTestEngine());
         launch(listener, parameters("testkit.record", ""), oneTestEngine());
+        launch(new RecordListener(""), ListenerCases::oneTest, ListenerCases::playOneTest);
         launch(listener, ListenerCases::oneTest, (calls, root) -> {
             calls.start(root);
             calls.report(root, "\uD83D", "first", "\uDE00", "second");
@@ -603,6 +632,10 @@ public class ListenerCases {
             room.fact("whole", listener.isWhole());
         }
         room.fact("kept", linesOf(folder.resolve("pom.xml").toFile()) + linesOf(folder.resolve("begins").toFile()));
+        // (what was refused isn't taken)
+        Files.write(folder.resolve("begins"), "testkit-record|".getBytes(UTF_8));
+        launch(new RecordListener(folder + "/begins"), ListenerCases::oneTest, ListenerCases::playOneTest);
+        room.fact("replaced", linesOf(folder.resolve("begins").toFile()));
     }
 
     /** Records of earlier processes: at the path of this one, and at a number. */
@@ -637,13 +670,17 @@ public class ListenerCases {
 
     /** Records that somebody deletes, replaces or changes while they are written. */
     private static void lostRecords(Room room) throws IOException {
-        for (String how : new String[] {"deleted", "replaced", "changed"}) {
+        for (String how : new String[] {"deleted", "replaced", "changed", "continued"}) {
             Path path = Paths.get(room.path() + "." + how);
             RecordListener listener = new RecordListener(path.toString());
             launch(listener, ListenerCases::oneTest, (calls, root) -> {
                 calls.start(root);
                 if (how.equals("changed")) {
                     Files.write(path, "testkit-record|2\n".getBytes(UTF_8));
+                } else if (how.equals("continued")) {
+                    // (no event comes after it)
+                    Files.write(path, "E".getBytes(UTF_8), StandardOpenOption.APPEND);
+                    return;
                 } else {
                     Files.delete(path);
                 }

@@ -183,14 +183,7 @@ public class LockCases {
             it.addChild(new Locking(it.getUniqueId().append("t", "1")) {
                 @Override
                 public Set<ExclusiveResource> getExclusiveResources() {
-                    Thread other = new Thread(listener::isWhole);
-                    other.start();
-                    try {
-                        other.join(5_000);
-                    } catch (InterruptedException fault) {
-                        throw new IllegalStateException(fault);
-                    }
-                    room.fact("free", !other.isAlive());
+                    ListenerCases.isFree(room, listener);
                     return super.getExclusiveResources();
                 }
             }.lock("db", READ));
