@@ -4,6 +4,8 @@ open-test-reporting.xml is JUnit's but for the later frames of its stack traces,
 message, as JUnit writes it. open-test-reporting.record was worked out from it by hand.
 """
 
+import os
+import resource
 import unittest
 from operator import itemgetter
 
@@ -28,6 +30,8 @@ def failed(said, type="a.B"):
     return HEAD + started(1, "[e:e]") + finished(1, "FAILED", f'<throwable type="{type}">{said}</throwable>') + TAIL
 
 
+REPORTED = '<e:reported id="1" time="1970-01-01T00:00:03Z"><attachments><data><entry key="a">1|</entry><entry key="Z|">2</entry></data>'
+REPORTED += '<file path="x|y"/></attachments></e:reported>'
 ONE = ["N|T|[e:e]|n", "E|1|0|1|start"]
 RIGHT = [
     ("no run", HEAD + TAIL, []),
@@ -37,6 +41,10 @@ RIGHT = [
     ("cut off in a message", HEAD + started(1, "[e:e]") + '<e:finished id="1"><result><throwable><![CDATA[a.B: x', ONE),
     ("an id above that isn't there", HEAD + started(1, "[e:e]/[c:x%2Fy]/[t:1]") + TAIL, ["N|C|[e:e]|e", "N|C|[e:e]/[c:x%2Fy]|x%2Fy", "N|T|[e:e]/[c:x%2Fy]/[t:1]|n", "E|1|2|1|start"]),
     ("an id that is too long", HEAD + started(1, f"[e:{'x' * 4_093}]") + TAIL, ["N|T|[replaced-id:0]|n", "E|1|0|1|start"]),
+    ("an id twice", HEAD + (started(1, "[e:e]") + finished(1)) * 2 + TAIL, [*ONE, "E|1|0|2|finish|ok", "E|1|0|2|start", "E|1|0|2|finish|ok"]),
+    ("a skip without a reason", HEAD + started(1, "[e:e]") + finished(1, "SKIPPED") + TAIL, [ONE[0], "E|1|0|2|skip|"]),
+    ("an entry and a file", HEAD + started(1, "[e:e]") + REPORTED + TAIL, [*ONE, "E|1|0|3000000|report|Z\\p|2|a|1\\p", "E|1|0|3000000|file|x\\py"]),
+    ("a name and an id with bars", HEAD + started(1, "[e:e|]", "n|", "CONTAINER_AND_TEST") + TAIL, ["N|B|[e:e\\p]|n\\p", ONE[1]]),
     ("a clock that falls", HEAD + started(1, "[e:e]", seconds="05") + finished(1, seconds="04.5") + TAIL, [ONE[0], "E|1|0|5000000|start", "E|1|0|5000000|finish|ok"]),
     ("references to characters", failed("a.B: &#1;&#x1F;&#65;&#xD800;|\\"), [*ONE, "E|1|0|2|finish|fail|\ufffd\ufffdA\ufffd\\p\\\\"]),
     ("a section of plain text", failed("<![CDATA[a.B: &#1;]]>"), [*ONE, "E|1|0|2|finish|fail|&#1;"]),
@@ -65,8 +73,8 @@ WRONG = [
 """A report after its name, and how the line of its refusal begins."""
 
 
-def convert(data):
-    return run([f"{TOP}/tools/from-open-test-reporting"], data)
+def convert(data, **how):
+    return run([f"{TOP}/tools/from-open-test-reporting"], data, **how)
 
 
 class OfReports(unittest.TestCase):
@@ -81,6 +89,14 @@ class OfReports(unittest.TestCase):
     def test_right(self, row):
         ran = convert(row[1].encode())
         self.assertEqual((ran.status, ran.output.decode(), ran.error), (0, "".join(f"{line}\n" for line in ["testkit-record|2", *row[2]]), b""))
+
+    def test_full_disk(self):
+        """No part of a record is taken for a whole one."""
+        report = HEAD + "".join(started(it, f"[e:{it}]") for it in range(100)) + TAIL
+        how = {"preexec_fn": lambda: resource.setrlimit(resource.RLIMIT_FSIZE, (1_000, 1_000)), "env": {**os.environ, "PYTHONUNBUFFERED": "1"}}
+        with open(f"{fixtures.folder(self)}/run.record", "wb") as file:
+            ran = convert(report.encode(), stdout=file, **how)
+        self.assertEqual((ran.status, ran.error.count(b"\n")), (70, 1), ran)
 
     @parameterized(WRONG, name=itemgetter(0))
     def test_wrong(self, row):
