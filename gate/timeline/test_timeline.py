@@ -7,9 +7,10 @@ import json
 import os
 import re
 
+from collections import Counter
 from operator import itemgetter
 
-from fixtures import PROGRAM, TOP, WithProgram, folder, needs, parameterized, run, write
+from fixtures import PROGRAM, TOP, WithProgram, ask, folder, needs, parameterized, run, write
 
 HERE = os.path.dirname(os.path.realpath(__file__))
 TIMELINE = f"{TOP}/tools/timeline"
@@ -86,6 +87,14 @@ DATA = [
 ]
 """What the data of a page have: the name, the record, the words, what is looked at, and what it has to be."""
 
+NESTED = nodes("C c", "T c/1", "T c/2") + events("1 1 5 start", "1 2 5 start", "1 2 7 finish|ok", "1 3 7 start", "1 3 9 finish|ok", "1 1 9 finish|ok")
+TRACED = [
+    ("a container and its tests", NESTED, [], [(1, 0, 4), (1, 0, 2), (1, 2, 2)]),
+    ("milliseconds", ONE_RUN, ["--unit", "milliseconds"], [(1, 0, 2_000)]),
+    ("stamps that fall", ONE + events("1 1 7 start", "1 1 5 finish|ok"), ["--unit", "milliseconds"], [(1, 0, 1)]),
+]
+"""The slices of a trace, each its thread, begin and length, after the name, the record and the words."""
+
 
 class Page(WithProgram):
     """What comes without a browser."""
@@ -145,23 +154,49 @@ class Page(WithProgram):
         self.assertEqual(looked, [["succeeded", 0, 1, "1", "3", 1, 3, 0], ["failed", 0, 1, "0", "5", 0, 5, 1]])
         self.assertEqual([(it["record"], it["worker"]) for it in data["lanes"]], [(0, 1), (1, 1)])
         self.assertEqual(data["records"], ["0.record", "1.record"])
+        fallen = ONE + events("1 1 7 start", "1 1 5 finish|ok")
+        data = self.data(self.drawn("", *self.files(ONE_RUN, fallen)))
+        self.assertEqual((data["times"], columns("ending", "first", "last")(data)), (False, [["succeeded", 0, 1]] * 2))
+
+    def traced(self, *words, record=""):
+        """The events of a trace, those that name processes and threads apart."""
+        ran = run([f"{TOP}/tools/trace", *words], record.encode(), env={**os.environ, "PROGRAM": PROGRAM})
+        self.assertEqual(ran.status, 0, ran)
+        found = json.loads(ran.output)["traceEvents"]
+        return [it for it in found if it["ph"] == "M"], [it for it in found if it["ph"] != "M"]
 
     def test_trace(self):
         """A process for each record and a thread for each worker; what overlaps in one stands beside it."""
-        one = holding(ONE, "1 W db") + events("1 1 1000 start", "1 1 1001 report|k|v", "2 1 1004 finish|fail|boom", "1 1 1005 start")
-        two = nodes("T 1", "T 2", "T 3") + events("1 1 1001 start", "1 2 1002 start", "1 1 1003 finish|ok", "1 2 1006 finish|ok", "1 3 1006 skip|off")
-        ran = run([f"{TOP}/tools/trace", *self.files(one, two)], env={**os.environ, "PROGRAM": PROGRAM})
-        self.assertEqual(ran.status, 0, ran)
-        found = json.loads(ran.output)["traceEvents"]
-        names = [(it["pid"], it["tid"], it["args"]["name"]) for it in found if it["ph"] == "M"]
+        of_one = ("1 1 1000 start", "1 1 1001 report|k|v|l|w", "2 1 1004 finish|fail|boom", "1 1 1005 start", "1 1 1006 skip|off")
+        one = holding(ONE.replace("[x:1]|", "[x:1]|one"), "1 W db") + events(*of_one)
+        two = nodes("T 1", "T 2", "T 3") + events("1 1 1001 start", "1 2 1002 start", "1 1 1003 finish|ok", "1 2 1006 finish|ok", "1 3 1007 skip|off")
+        names, found = self.traced(*self.files(one, two))
         threads = [(0, 1, "worker 1"), (1, 1, "worker 1"), (1, 17, "worker 1, beside it 1")]
-        self.assertEqual(names, [(0, 0, "0.record"), (1, 0, "1.record"), *threads])
-        slices = [(it["pid"], it["tid"], it["ph"], it["ts"], it.get("dur"), it["cat"]) for it in found if it["ph"] != "M"]
-        in_one = [(0, 1, "X", 0, 4, "failed"), (1, 1, "X", 1, 2, "succeeded"), (1, 17, "X", 2, 4, "succeeded"), (0, 1, "B", 5, None, "unfinished")]
-        self.assertEqual(slices, [*in_one, (1, 1, "i", 6, None, "skipped")])
-        failed = next(it for it in found if it.get("cat") == "failed")
-        wanted = {"id": "[engine:e]/[x:1]", "type": "test", "ending": "failed", "event": 0, "last event": 2, "message": "boom"}
-        self.assertEqual(failed["args"], {**wanted, "finished by worker": 2, "locks": ["W db"], "entries": [{"k": "v"}]})
+        self.assertEqual([(it["pid"], it["tid"], it["args"]["name"]) for it in names], [(0, 0, "0.record"), (1, 0, "1.record"), *threads])
+        slices = [(it["pid"], it["tid"], it["ph"], it["ts"], it.get("dur"), it["cat"]) for it in found]
+        wanted = [(0, 1, "X", 0, 4, "failed"), (1, 1, "X", 1, 2, "succeeded"), (1, 17, "X", 2, 4, "succeeded"), (0, 1, "B", 5, None, "unfinished")]
+        self.assertEqual(slices, [*wanted, (0, 1, "i", 6, None, "skipped"), (1, 1, "i", 7, None, "skipped")])
+        self.assertEqual([it["name"] for it in found[:2]], ["one", "[engine:e]/[x:1]"])
+        of_failed = {"event": 0, "last event": 2, "message": "boom", "finished by worker": 2, "entries": [{"k": "v", "l": "w"}]}
+        of_others = [{"event": 3}, {"event": 4, "last event": 4, "reason": "off"}]
+        same = {"id": "[engine:e]/[x:1]", "type": "test", "locks": ["W db"]}
+        wanted = [{**same, "ending": ending, **it} for ending, it in zip(("failed", "unfinished", "skipped"), (of_failed, *of_others))]
+        self.assertEqual([it["args"] for it in found if it["pid"] == 0], wanted)
+
+    @parameterized(TRACED, name=itemgetter(0))
+    def test_slices(self, row):
+        _, record, words, wanted = row
+        names, found = self.traced(*words, record=record)
+        self.assertEqual(names[0]["args"], {"name": "record"})
+        self.assertEqual([(it["tid"], it["ts"], it["dur"]) for it in found], wanted)
+
+    def test_trace_of_junit(self):
+        """It has each execution of the sample tests that the program answers."""
+        path = f"{TOP}/examples/jupiter.record"
+        with open(path, "rb") as file:
+            answered = ask(["ask", "executions"], file.read()).output.decode().splitlines()
+        _, found = self.traced(path)
+        self.assertEqual(Counter(it["cat"] for it in found), Counter(line.split(" ")[1] for line in answered))
 
     def test_texts(self):
         """No text of a record gets into the page as markup, and the policy names the page's own script and style alone."""
