@@ -340,7 +340,8 @@ class ManPage(unittest.TestCase):
         self.assertEqual([it for it in shown if not re.search(rf"^{it} ", self.TEXT, re.MULTILINE)], [])
         words = "all tests containers skipped started finished aborted succeeded failed reporting dynamic files exactly loosely in-order "
         words += "test container engine id(TEXT) name(TEXT) failed(TEXT) aborted(TEXT) skipped(TEXT) entry(KEY,VALUE,..) file(TEXT) kind(K) "
-        words += "skip start finish report file %25 %28 %29 %2C QUESTION testkit-explain testkit-timeline"
+        words += "skip start finish report file %25 %28 %29 %2C QUESTION segment(TAG,VALUE) message(TEXT) --workers --record --unit "
+        words += f"explain testkit-explain {' '.join(f'testkit-{it}' for it in COMMANDS)}"
         self.assertEqual([it for it in words.split() if not re.search(rf"(?<!\w){re.escape(it)}(?!\w)", self.TEXT)], [])
 
     @needs("groff")
