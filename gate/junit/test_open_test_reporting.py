@@ -49,6 +49,7 @@ RIGHT = [
     ("references to characters", failed("a.B: &#1;&#x1F;&#65;&#xD800;|\\"), [*ONE, "E|1|0|2|finish|fail|\ufffd\ufffdA\ufffd\\p\\\\"]),
     ("a section of plain text", failed("<![CDATA[a.B: &#1;]]>"), [*ONE, "E|1|0|2|finish|fail|&#1;"]),
     ("a message of lines", failed("a.B: one\n two\n\tat C.d(C.java:1)\nCaused by: a.B: three"), [*ONE, "E|1|0|2|finish|fail|one\\n two"]),
+    ("what was suppressed, without frames", failed("a.B: one\n\tSuppressed: a.B: two"), [*ONE, "E|1|0|2|finish|fail|one"]),
     ("a cause without frames", failed("a.B: one\nCaused by: a.B: two"), [*ONE, "E|1|0|2|finish|fail|one"]),
     ("no message", failed("a.B\n\tat C.d(C.java:1)"), [*ONE, "E|1|0|2|finish|fail"]),
     ("an empty message", failed("a.B: \n\tat C.d(C.java:1)"), [*ONE, "E|1|0|2|finish|fail|"]),
