@@ -430,6 +430,12 @@ public class ListenerCases {
             // A static id that is registered.
             calls.register(root.child(0));
             calls.succeed(root.child(0));
+            calls.onThread(() -> {
+                calls.start(first);
+                calls.play(first);
+            });
+            // Who has started twice and finished once keeps no worker.
+            calls.onThread(() -> calls.report(first));
             calls.succeed(root);
         });
     }
@@ -834,9 +840,10 @@ public class ListenerCases {
         }
     }
 
-    /** Descriptors with tags, one of them dynamic. */
+    /** Descriptors with tags, one of them dynamic; and a run of the same listener whose tags nobody wants. */
     private static void tags(Room room) {
-        launch(new RecordListener(room.path()), parameters("testkit.tags", "true"), new ScriptedEngine("e", "engine", root -> {
+        RecordListener listener = new RecordListener(room.path());
+        launch(listener, parameters("testkit.tags", "true"), new ScriptedEngine("e", "engine", root -> {
             root.add("t", "1", "one", Type.TEST).tag("b\\c").tag("a");
             root.add("t", "2", "two", Type.TEST).tag("off");
         }, (calls, root) -> {
@@ -848,6 +855,7 @@ public class ListenerCases {
             calls.play(dynamic);
             calls.succeed(root);
         }));
+        launch(listener, root -> root.add("t", "1", "one", Type.TEST).tag("a"), (calls, root) -> calls.start(root.child(0)));
     }
 
     /** Runs whose listener says which file it takes, if any; and one whose listener is told to be silent. */

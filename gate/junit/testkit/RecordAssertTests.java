@@ -112,7 +112,7 @@ class RecordAssertTests {
     private static Map<String, Function<RecordAssert, RecordAssert>> methods() {
         Map<String, Function<RecordAssert, RecordAssert>> found = new LinkedHashMap<>();
         found.put("ask explain lifecycle", RecordAssert::keepsLifecycle);
-        found.put("ask explain stats all failed=1 skipped=0", it -> it.hasStatistics("failed=1", "skipped=0"));
+        found.put("ask explain stats containers failed=1 skipped=0", it -> it.containers().hasStatistics("failed=1", "skipped=0"));
         found.put("ask explain all exactly a b", it -> it.matchesExactly("a", "b"));
         found.put("ask explain tests loosely c", it -> it.tests().matchesLoosely("c"));
         found.put("ask explain failed in-order d e f", it -> it.on("failed").describedAs("run 1").matchesInOrder("d", "e", "f"));
