@@ -14,9 +14,6 @@ fn expectations_that_are_met_are_a_chain(rt: HostRuntime) -> Result<(), Failure>
     Expect::of(alloc, &recorded)
         .lifecycle()?
         .loosely(&["failed(boom)", "skipped(off)"])?
-        .exclusive_with("name(one)", "name(two)")
-        .is_ok();
-    Expect::of(alloc, &recorded)
         .pick(Selection::Tests)
         .stats("started=1 failed=1")?
         .exactly(&["started", "failed(boom)", "skipped(off)"])?
@@ -68,6 +65,12 @@ all events of these descriptors:
         alloc,
         expect.exclusive("all(test,id(databse))"),
         "no pair\n0 all(test,id(databse))\n    0 executions\n",
+    );
+    assert_shown(
+        &rt,
+        alloc,
+        expect.exclusive_with("name(one)", "name(two)"),
+        "no pair\n0 name(one)\n    1 executions\n1 name(two)\n    0 executions\n",
     );
     assert_shown(
         &rt,
