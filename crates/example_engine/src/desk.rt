@@ -14,7 +14,7 @@ enum Command {
     Fail(&'static str),
     File(&'static str),
     Report(&'static str, &'static str),
-    Rows([&'static str; 2]),
+    Rows(&'static str, &'static str),
 }
 
 // What the plan says of a test: how it locks its group, that it runs alone, or why it doesn't run.
@@ -33,7 +33,7 @@ const GROUPS: [&str; 2] = ["ledger", "printer"];
 
 const TESTS: [Test; 6] = [
     ("ledger", "total", Reads, Fail("off by 1")),
-    ("ledger", "entries", Writes, Rows(["rent", "tea"])),
+    ("ledger", "entries", Writes, Rows("rent", "tea")),
     ("printer", "letter", Writes, File("letter.txt")),
     ("printer", "poster", Writes, Abort("no ink")),
     ("printer", "photo", Skipped("no paper"), File("photo.txt")),
@@ -50,13 +50,13 @@ fn command_of(name: &str) -> Option<Command> {
     None
 }
 
-// The body of a container: a test for each row.
+// The body of a container: a test for each of two rows.
 #[derive(Drop)]
-struct Sheet([&'static str; 2]);
+struct Sheet(&'static str, &'static str);
 
 impl Body for Sheet {
     fn run<C: Context>(&self, test: &mut Reporter<C>) -> Result<Outcome, UnitFault> {
-        for row in self.0 {
+        for row in [self.0, self.1] {
             test.dynamic_test(("row", row), row, &Outcome::Successful)?;
         }
         Ok(Outcome::Successful)
@@ -75,7 +75,7 @@ impl Tests for DeskTests {
             Fail(message) => return Ok(Outcome::failed(test.alloc(), message)?),
             File(path) => test.file(path)?,
             Report(key, value) => test.report(key, value)?,
-            Rows(rows) => test.dynamic_container(("sheet", "1"), "sheet", &Sheet(rows))?,
+            Rows(one, two) => test.dynamic_container(("sheet", "1"), "sheet", &Sheet(one, two))?,
         }
         Ok(Outcome::Successful)
     }
@@ -85,7 +85,7 @@ impl Tests for DeskTests {
 fn test_node(alloc: Global, test: Test) -> Result<PlanNode<'static>, AllocError> {
     let (group, name, planned, command) = test;
     let node = match command {
-        Rows(_) => PlanNode::container_and_test(alloc, ("test", name), name),
+        Rows(..) => PlanNode::container_and_test(alloc, ("test", name), name),
         _ => PlanNode::test(alloc, ("test", name), name),
     };
     let node = node.mode(ExecutionMode::Concurrent);

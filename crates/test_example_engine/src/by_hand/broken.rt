@@ -11,7 +11,7 @@ enum Expectation {
     Lifecycle,
     Locks,
     Stats(&'static str),
-    InOrder([&'static str; 2]),
+    InOrder(&'static str, &'static str),
     Loosely(&'static str),
 }
 
@@ -63,7 +63,7 @@ but its child [engine:broken]/[suite:all]/[test:second] \"second\", which starte
     ),
     (
         Defect::OrderSwapped,
-        Expectation::InOrder(["all(started,name(first))", "all(started,name(second))"]),
+        Expectation::InOrder("all(started,name(first))", "all(started,name(second))"),
         "no 1
 0 all(started,name(first))
     4: E|1|2|0|start   [engine:broken]/[suite:all]/[test:first] \"first\"
@@ -92,7 +92,7 @@ fn failure<R: Threads + Wait + Sync>(
         Expectation::Lifecycle => expect.lifecycle(),
         Expectation::Locks => expect.locks(),
         Expectation::Stats(words) => expect.pick(Selection::Tests).stats(words),
-        Expectation::InOrder(conditions) => expect.in_order(&conditions),
+        Expectation::InOrder(first, second) => expect.in_order(&[first, second]),
         Expectation::Loosely(condition) => expect.loosely(&[condition]),
     };
     match answer {
