@@ -12,8 +12,9 @@ LIMITS = Limits(
     # (an author needs no clause to make an engine of tests; no clause can say what another thread does)
     without_clause=[
         "crates/tk_overlaps/src/meetings.rt wait",
-        *("crates/example_engine/src/by_hand/broken.rt new", "crates/example_engine/src/by_hand/numbers.rt number_engine"),
-        *("crates/example_engine/src/case_tests.rt case_engine", "crates/example_engine/src/evens.rt even_numbers"),
+        *("crates/example_engine/src/by_hand/broken.rt broken_engine", "crates/example_engine/src/by_hand/numbers.rt number_engine"),
+        *("crates/example_engine/src/case_tests.rt case_engine", "crates/example_engine/src/desk.rt desk_engine"),
+        "crates/example_engine/src/evens.rt even_numbers",
     ],
     fewest_edits=129,
     fewest_tests=162,

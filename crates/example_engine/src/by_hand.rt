@@ -2,7 +2,7 @@
 //!
 //! Proved of each run, beside what [`execute`] proves of any: which events each unit emitted, and in
 //! which order. So a test starts once and finishes once, and succeeds exactly where what it asks is
-//! so. Of what [`number_engine`] and [`BrokenEngine`] emit nothing is proved: one is a page to copy,
+//! so. Of what [`number_engine`] and [`broken_engine`] emit nothing is proved: one is a page to copy,
 //! and the other has a defect.
 //!
 //! [`execute`]: engine_testkit::execute
@@ -13,7 +13,7 @@ mod even;
 mod numbers;
 mod running;
 
-pub use broken::{BrokenEngine, Defect};
+pub use broken::{BrokenUnits, Defect, broken_engine};
 pub use case_engine::CaseEngine;
 pub use even::EvenEngine;
 pub use numbers::{NumberUnits, number_engine};

@@ -6,6 +6,8 @@ mod by_hand;
 #[cfg(test)]
 mod case_tests;
 #[cfg(test)]
+mod desk;
+#[cfg(test)]
 mod evens;
 #[cfg(test)]
 mod halves;

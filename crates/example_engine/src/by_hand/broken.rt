@@ -1,109 +1,118 @@
-//! Engines that the kit catches: each runs one test, which is to start and to fail, with a defect.
-#![tactic(auto, using(engine_testkit::proofs::Emissions::emissions))]
-
-ghost use Rattle.std.specs.Prelude.{[]};
-ghost use Rattle.std.specs.Arc.{arc_value};
-
+//! An engine with one of eight defects, each of which an expectation finds.
+//!
+//! Its suite has two tests, which declare one lock: the first publishes an entry and succeeds, and
+//! then the second fails.
 use engine_testkit::{
-    BookSeat, DType, Engine, Event, Need, Segment, Sink, Status, Table, TableFault, UnitFault,
-    finish, start,
+    DType, Emitter, LockMode, Need, TableFault, UnitContext, UnitEngine, UnitFault, UnitTable,
+    Units,
 };
-use std::alloc::{AllocError, Global};
-use std::sync::{Arc, Wait};
+use std::alloc::Global;
 
 /// What an engine does wrong.
-#[derive(Clone, Copy)]
+#[derive(Clone, Copy, Debug)]
 pub enum Defect {
-    /// Its test has no finish.
-    ForgetsFinish,
-    /// Its test finishes before it starts.
-    FinishesFirst,
-    /// Its test fails, and is reported as a success.
-    HidesFailure,
+    /// The second test finishes twice.
+    FinishedTwice,
+    /// The second test starts after the suite has finished.
+    StartedTooLate,
+    /// The second test never runs.
+    TestForgotten,
+    /// The first test runs while the second one does.
+    LockForgotten,
+    /// The second test succeeds.
+    WrongOutcome,
+    /// The second test has no finish.
+    FinishLost,
+    /// The second test runs before the first one.
+    OrderSwapped,
+    /// The first test publishes nothing.
+    EntryMissing,
 }
 
-/// An engine of one test, which is to start and to fail.
+// The keys of the descriptors below the root.
+const SUITE: u32 = 1;
+
+const FIRST: u32 = 2;
+
+const SECOND: u32 = 3;
+
+fn run_first<C: UnitContext>(events: &mut Emitter<C>) -> Result<(), UnitFault> {
+    events.start(FIRST)?;
+    events.report(FIRST, "rows", "2")?;
+    events.succeed(FIRST)
+}
+
+fn run_second<C: UnitContext>(events: &mut Emitter<C>) -> Result<(), UnitFault> {
+    events.start(SECOND)?;
+    events.fail(SECOND, "boom")
+}
+
+/// The unit of the suite.
 #[derive(Drop)]
-pub struct BrokenEngine {
-    table: Arc<Table>,
-    need: Need,
-    defect: Defect,
+pub struct BrokenUnits {
+    defect: Option<Defect>,
 }
 
-// A table of one test.
-fn one_test(alloc: Global) -> Result<Table, TableFault> {
-    let segment = Segment::new(alloc, "engine", "broken").map_err(TableFault::Id)?;
-    let mut table = Table::new(alloc);
-    let _test = table.add(alloc, None, &segment, "broken", DType::Test)?;
-    Ok(table)
-}
-
-impl BrokenEngine {
-    /// Makes an engine with this defect.
-    ///
-    /// # Errors
-    /// `TableFault` where memory is refused.
-    pub fn new(alloc: Global, defect: Defect) -> Result<BrokenEngine, TableFault> {
-        let table = Arc::new(alloc, one_test(alloc)?)?;
-        Ok(BrokenEngine {
-            table,
-            need: Need::of(0, 0),
-            defect,
-        })
-    }
-}
-
-impl Engine for BrokenEngine {
-    ghost table = { λ e. arc_value e.table };
-
-    ghost units = { λ e. 1 };
-
-    ghost before = { λ e. [] };
-
-    ghost after = { λ e. [] };
-
-    ghost need = { λ e u. e.need };
-
-    ghost may = { λ e u w k l. Unit {0} };
-
-    fn table(&self) -> &Arc<Table> {
-        &self.table
-    }
-
-    fn units(&self) -> u32 {
-        1
-    }
-
-    fn before(&self, alloc: Global) -> Result<Vec<Event>, AllocError> {
-        Ok(Vec::new(alloc))
-    }
-
-    fn after(&self, alloc: Global) -> Result<Vec<Event>, AllocError> {
-        Ok(Vec::new(alloc))
-    }
-
-    fn need(&self, _unit: u32) -> Need {
-        self.need
-    }
-
-    fn run<R: Wait, S: Sink>(
-        &self,
-        rt: &R,
-        _alloc: Global,
-        _unit: u32,
-        _seat: &BookSeat,
-        sink: &mut S,
-    ) -> Result<(), UnitFault> {
+impl Units for BrokenUnits {
+    fn run<C: UnitContext>(&self, _unit: u32, events: &mut Emitter<C>) -> Result<(), UnitFault> {
+        events.start(SUITE)?;
         match self.defect {
-            Defect::ForgetsFinish => start(rt, 0, 0, sink),
-            Defect::FinishesFirst => {
-                finish(rt, 0, 0, Status::Failed, None, sink)?;
-                start(rt, 0, 0, sink)
+            None => {
+                run_first(events)?;
+                run_second(events)?;
             }
-            Defect::HidesFailure => {
-                start(rt, 0, 0, sink)?;
-                finish(rt, 0, 0, Status::Successful, None, sink)
+            Some(Defect::FinishedTwice) => {
+                run_first(events)?;
+                run_second(events)?;
+                events.fail(SECOND, "boom")?;
+            }
+            Some(Defect::StartedTooLate) => {
+                run_first(events)?;
+                events.succeed(SUITE)?;
+                return run_second(events);
+            }
+            Some(Defect::TestForgotten) => run_first(events)?,
+            Some(Defect::LockForgotten) => {
+                events.start(SECOND)?;
+                run_first(events)?;
+                events.fail(SECOND, "boom")?;
+            }
+            Some(Defect::WrongOutcome) => {
+                run_first(events)?;
+                events.start(SECOND)?;
+                events.succeed(SECOND)?;
+            }
+            Some(Defect::FinishLost) => {
+                run_first(events)?;
+                events.start(SECOND)?;
+            }
+            Some(Defect::OrderSwapped) => {
+                run_second(events)?;
+                run_first(events)?;
+            }
+            Some(Defect::EntryMissing) => {
+                events.start(FIRST)?;
+                events.succeed(FIRST)?;
+                run_second(events)?;
             }
         }
+        events.succeed(SUITE)
     }
+}
+
+/// Makes the engine with this defect, or with none.
+pub fn broken_engine(
+    alloc: Global,
+    defect: Option<Defect>,
+) -> Result<UnitEngine<BrokenUnits>, TableFault> {
+    let mut table = UnitTable::new(alloc, ("engine", "broken"), "broken")?;
+    let _suite = table.add(alloc, 0, ("suite", "all"), "all", DType::Container)?;
+    for name in ["first", "second"] {
+        let key = table.add(alloc, SUITE, ("test", name), name, DType::Test)?;
+        let locked = table.lock(alloc, key, "db", LockMode::ReadWrite);
+        // No allocation failed here: one failed in `lock`, since descriptor and name are there.
+        locked.map_err(|_| TableFault::Memory)?;
+    }
+    table.add_unit(Need::of(0, 0))?;
+    Ok(UnitEngine::new(alloc, table, BrokenUnits { defect })?)
 }

@@ -1,112 +1,120 @@
-//! What the kit says of engines with a defect.
-use engine_testkit::questions::{Lifecycle, LifecycleRule};
-use engine_testkit::{
-    Condition, Events, Exact, Expected, Mismatch, Results, Selection, execute, executions,
-    match_exactly,
-};
-use example_engine::by_hand::{BrokenEngine, Defect};
-use std::alloc::{AllocError, Global};
+//! An engine with one of eight defects: which expectation finds it, and how that fails.
+use engine_testkit::{Expect, Failure, Selection, execute};
+use example_engine::by_hand::{Defect, broken_engine};
+use std::alloc::Global;
 use std::sync::Wait;
 use std::thread::Threads;
 
-// The first number of starts and failures that is another than one.
-fn first_mismatch(alloc: Global, tests: &Events) -> Result<Option<Mismatch>, AllocError> {
-    let mut expected = Expected::none();
-    expected.started = Some(1);
-    expected.failed = Some(1);
-    Ok(tests.check(alloc, &expected)?.get(0).copied())
+// What is expected of a run.
+#[derive(Clone, Copy)]
+enum Expectation {
+    Lifecycle,
+    Locks,
+    Stats(&'static str),
+    InOrder(&'static str, &'static str),
+    Loosely(&'static str),
 }
 
-// The exact match with a start and a failure.
-fn exact_match(alloc: Global, tests: &Events) -> Result<Exact, AllocError> {
-    match_exactly(alloc, tests, &[Condition::Started, Condition::Failed(None)])
-}
+// Each defect, the expectation that is not met, and how its failure begins.
+const ROWS: [(Defect, Expectation, &str); 8] = [
+    (
+        Defect::FinishedTwice,
+        Expectation::Lifecycle,
+        "no 7 not-running
+[engine:broken]/[suite:all]/[test:second] \"second\" finished at 7, but finished at 6 already",
+    ),
+    (
+        Defect::StartedTooLate,
+        Expectation::Lifecycle,
+        "no 6 parent-not-running
+[engine:broken]/[suite:all]/[test:second] \"second\" started at 6, \
+but its parent [engine:broken]/[suite:all] \"all\" finished at 5",
+    ),
+    (
+        Defect::TestForgotten,
+        Expectation::Lifecycle,
+        "no start 3
+[engine:broken]/[suite:all]/[test:second] \"second\" neither started nor was skipped, \
+but its parent [engine:broken]/[suite:all] \"all\" succeeded at 5",
+    ),
+    (
+        Defect::LockForgotten,
+        Expectation::Locks,
+        "no 2 3 db
+[engine:broken]/[suite:all]/[test:second] \"second\" (2 to 6) \
+and [engine:broken]/[suite:all]/[test:first] \"first\" (3 to 5) overlap, over db",
+    ),
+    (
+        Defect::WrongOutcome,
+        Expectation::Stats("failed=1"),
+        "skipped 0\nstarted 2\nfinished 2\naborted 0\nsucceeded 2\nfailed 0\nreporting 1\n\
+dynamic 0\nfiles 0
+mismatch failed expected 1 actual 0
+not counted as failed:
+    4 E|1|2|0|finish|ok   [engine:broken]/[suite:all]/[test:first] \"first\"
+    6 E|1|3|0|finish|ok   [engine:broken]/[suite:all]/[test:second] \"second\"",
+    ),
+    (
+        Defect::FinishLost,
+        Expectation::Lifecycle,
+        "no 6 child-running
+[engine:broken]/[suite:all] \"all\" finished at 6, \
+but its child [engine:broken]/[suite:all]/[test:second] \"second\", which started at 5, still ran",
+    ),
+    (
+        Defect::OrderSwapped,
+        Expectation::InOrder("all(started,name(first))", "all(started,name(second))"),
+        "no 1
+0 all(started,name(first))
+    4: E|1|2|0|start   [engine:broken]/[suite:all]/[test:first] \"first\"
+1 all(started,name(second))
+    2: E|1|3|0|start   [engine:broken]/[suite:all]/[test:second] \"second\"   holds, but is not after 4",
+    ),
+    (
+        Defect::EntryMissing,
+        Expectation::Loosely("all(name(first),entry(rows,2))"),
+        "no 0
+0 all(name(first),entry(rows,2))
+    2: E|1|2|0|start   [engine:broken]/[suite:all]/[test:first] \"first\"   does not hold: entry(rows,2)",
+    ),
+];
 
-// What the kit says of the events of a test that is to start and to fail: the first number that is another than expected, the
-// exact match, and how many executions there are.
-fn verdict_on(
-    alloc: Global,
-    tests: &Events,
-) -> Result<(Option<Mismatch>, Exact, usize), AllocError> {
-    let number = executions(alloc, tests)?.len();
-    Ok((
-        first_mismatch(alloc, tests)?,
-        exact_match(alloc, tests)?,
-        number,
-    ))
-}
-
-// The same of the events of the tests of a run.
-fn verdict_on_run(
-    alloc: Global,
-    results: &Results,
-) -> Result<(Option<Mismatch>, Exact, usize), AllocError> {
-    verdict_on(alloc, &results.test_events(alloc)?)
-}
-
-// What the kit says of a run of an engine with the defect.
-fn verdict<R: Threads + Wait + Sync>(
+// How an expectation of a run fails, or no text where it is met.
+fn failure<R: Threads + Wait + Sync>(
     rt: &R,
     alloc: Global,
-    defect: Defect,
-) -> Option<(Option<Mismatch>, Exact, usize)> {
-    let engine = BrokenEngine::new(alloc, defect).ok()?;
-    let ran = execute(rt, alloc, &engine, 1, 1);
-    let verdict = match &ran {
-        Ok(results) => verdict_on_run(alloc, results).ok(),
-        Err(_) => None,
+    defect: Option<Defect>,
+    expectation: Expectation,
+) -> Result<String, Failure> {
+    let results = execute(rt, alloc, &broken_engine(alloc, defect)?, 1, 16)?;
+    let expect = Expect::of(alloc, results.recorded());
+    let answer = match expectation {
+        Expectation::Lifecycle => expect.lifecycle(),
+        Expectation::Locks => expect.locks(),
+        Expectation::Stats(words) => expect.pick(Selection::Tests).stats(words),
+        Expectation::InOrder(first, second) => expect.in_order(&[first, second]),
+        Expectation::Loosely(condition) => expect.loosely(&[condition]),
     };
-    drop(ran);
-    verdict
-}
-
-// Whether that is the verdict on the defect.
-fn is_found<R: Threads + Wait + Sync>(
-    rt: &R,
-    alloc: Global,
-    defect: Defect,
-    expected: (Option<Mismatch>, Exact, usize),
-) -> bool {
-    verdict(rt, alloc, defect) == Some(expected)
+    match answer {
+        Ok(_) => Ok(String::new(alloc)),
+        Err(failure) => Ok(format!(in alloc; "{failure:?}")?),
+    }
 }
 
 #[test]
-fn defects_are_found(rt: HostRuntime) {
-    let no_failure = Mismatch {
-        selection: Selection::Failed,
-        expected: 1,
-        actual: 0,
-    };
-    let forgot = (Some(no_failure), Exact::WrongCount, 0);
-    assert!(rt; is_found(&rt, rt.alloc(), Defect::ForgetsFinish, forgot));
-    let turned = (None, Exact::No(0), 0);
-    assert!(rt; is_found(&rt, rt.alloc(), Defect::FinishesFirst, turned));
-    let hid = (Some(no_failure), Exact::No(1), 1);
-    assert!(rt; is_found(&rt, rt.alloc(), Defect::HidesFailure, hid));
-}
-
-// The lifecycle of a run of an engine with the defect.
-fn lifecycle_of<R: Threads + Wait + Sync>(
-    rt: &R,
-    alloc: Global,
-    defect: Defect,
-) -> Option<Lifecycle> {
-    let engine = BrokenEngine::new(alloc, defect).ok()?;
-    let ran = execute(rt, alloc, &engine, 1, 1);
-    let lifecycle = match &ran {
-        Ok(results) => results.lifecycle(alloc).ok(),
-        Err(_) => None,
-    };
-    drop(ran);
-    lifecycle
+fn each_defect_is_found(rt: HostRuntime) -> Result<(), Failure> {
+    for (defect, expectation, begin) in ROWS {
+        let found = failure(&rt, rt.alloc(), Some(defect), expectation)?;
+        assert!(rt; found.as_str().starts_with(begin), "{defect:?}: {found}");
+    }
+    Ok(())
 }
 
 #[test]
-fn lifecycles_of_defects(rt: HostRuntime) {
-    let forgot = lifecycle_of(&rt, rt.alloc(), Defect::ForgetsFinish);
-    assert!(rt; forgot == Some(Lifecycle::Unfinished(0)));
-    let turned = lifecycle_of(&rt, rt.alloc(), Defect::FinishesFirst);
-    assert!(rt; turned == Some(Lifecycle::Broken(0, LifecycleRule::NotRunning)));
-    let hid = lifecycle_of(&rt, rt.alloc(), Defect::HidesFailure);
-    assert!(rt; hid == Some(Lifecycle::Kept));
+fn an_engine_without_defect_has_what_is_expected(rt: HostRuntime) -> Result<(), Failure> {
+    for (defect, expectation, _) in ROWS {
+        let found = failure(&rt, rt.alloc(), None, expectation)?;
+        assert!(rt; found.is_empty(), "{defect:?}: {found}");
+    }
+    Ok(())
 }

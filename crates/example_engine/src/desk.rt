@@ -1,0 +1,119 @@
+//! An engine that shows what tests may do: an interpreter, with one command for each test.
+use self::Command::{Abort, Fail, File, Report, Rows};
+use self::Planned::{Isolated, Reads, Skipped, Writes};
+use engine_testkit::{
+    Body, Context, ExecutionMode, Hierarchical, LockMode, Outcome, PlanFault, PlanNode, Reporter,
+    Tests, UnitFault, build_plan,
+};
+use std::alloc::{AllocError, Global};
+
+// What a test does.
+#[derive(Clone, Copy)]
+enum Command {
+    Abort(&'static str),
+    Fail(&'static str),
+    File(&'static str),
+    Report(&'static str, &'static str),
+    Rows(&'static str, &'static str),
+}
+
+// What the plan says of a test: how it locks its group, that it runs alone, or why it doesn't run.
+#[derive(Clone, Copy)]
+enum Planned {
+    Reads,
+    Writes,
+    Isolated,
+    Skipped(&'static str),
+}
+
+// A test: its group, its name, what the plan says of it, and what it does.
+type Test = (&'static str, &'static str, Planned, Command);
+
+const GROUPS: [&str; 2] = ["ledger", "printer"];
+
+const TESTS: [Test; 6] = [
+    ("ledger", "total", Reads, Fail("off by 1")),
+    ("ledger", "entries", Writes, Rows("rent", "tea")),
+    ("printer", "letter", Writes, File("letter.txt")),
+    ("printer", "poster", Writes, Abort("no ink")),
+    ("printer", "photo", Skipped("no paper"), File("photo.txt")),
+    ("printer", "cleaning", Isolated, Report("pages", "0")),
+];
+
+// Finds what the test of this name does.
+fn command_of(name: &str) -> Option<Command> {
+    for (_, test, _, command) in TESTS {
+        if test == name {
+            return Some(command);
+        }
+    }
+    None
+}
+
+// The body of a container: a test for each of two rows.
+#[derive(Drop)]
+struct Sheet(&'static str, &'static str);
+
+impl Body for Sheet {
+    fn run<C: Context>(&self, test: &mut Reporter<C>) -> Result<Outcome, UnitFault> {
+        for row in [self.0, self.1] {
+            test.dynamic_test(("row", row), row, &Outcome::Successful)?;
+        }
+        Ok(Outcome::Successful)
+    }
+}
+
+/// The tests `[engine:desk]/[group:ledger]/[test:total]` and so on.
+#[derive(Drop)]
+pub struct DeskTests;
+
+impl Tests for DeskTests {
+    fn run<C: Context>(&self, key: u32, test: &mut Reporter<C>) -> Result<Outcome, UnitFault> {
+        let name = test.descriptor()?.name.as_str();
+        match command_of(name).ok_or(UnitFault::Own(key))? {
+            Abort(reason) => return Ok(Outcome::aborted(test.alloc(), reason)?),
+            Fail(message) => return Ok(Outcome::failed(test.alloc(), message)?),
+            File(path) => test.file(path)?,
+            Report(key, value) => test.report(key, value)?,
+            Rows(one, two) => test.dynamic_container(("sheet", "1"), "sheet", &Sheet(one, two))?,
+        }
+        Ok(Outcome::Successful)
+    }
+}
+
+// A test as a node of the plan.
+fn test_node(alloc: Global, test: Test) -> Result<PlanNode<'static>, AllocError> {
+    let (group, name, planned, command) = test;
+    let node = match command {
+        Rows(..) => PlanNode::container_and_test(alloc, ("test", name), name),
+        _ => PlanNode::test(alloc, ("test", name), name),
+    };
+    let node = node.mode(ExecutionMode::Concurrent);
+    match planned {
+        Reads => node.lock(group, LockMode::Read),
+        Writes => node.lock(group, LockMode::ReadWrite),
+        Isolated => Ok(node.isolated()),
+        Skipped(reason) => Ok(node.skip(reason)),
+    }
+}
+
+// A group with its tests.
+fn group_node(alloc: Global, group: &'static str) -> Result<PlanNode<'static>, AllocError> {
+    let mut node = PlanNode::container(alloc, ("group", group), group);
+    for test in TESTS {
+        if test.0 == group {
+            node = node.child(test_node(alloc, test)?)?;
+        }
+    }
+    Ok(node.mode(ExecutionMode::Concurrent))
+}
+
+/// Makes the engine.
+pub fn desk_engine(alloc: Global) -> Result<Hierarchical<DeskTests>, PlanFault> {
+    let mut root = PlanNode::container(alloc, ("engine", "desk"), "desk");
+    for group in GROUPS {
+        root = root.child(group_node(alloc, group)?)?;
+    }
+    let plan = build_plan(alloc, &root)?;
+    Ok(Hierarchical::new(alloc, plan, DeskTests)?)
+}
