@@ -17,7 +17,7 @@ LIMITS = Limits(
         "crates/example_engine/src/evens.rt even_numbers",
     ],
     fewest_edits=129,
-    fewest_tests=162,
+    fewest_tests=209,
 )
 
 
