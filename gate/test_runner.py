@@ -229,7 +229,8 @@ class Check(unittest.TestCase):
     @parameterized(CHECKS)
     def test_says(self, row):
         at = self.repository(row)
-        command = [f"{at}/{row.words[0]}", *row.words[1:]]
+        # (a gate in the background of a script ignores interrupts, and what it starts does so too)
+        command = ["env", "--default-signal=INT", f"{at}/{row.words[0]}", *row.words[1:]]
         ran = run(command, cwd="/", stderr=subprocess.STDOUT, env={**os.environ, "PATH": f"{at}/commands:{os.environ['PATH']}"})
         said = ran.output.decode()
         self.assertEqual(status_of(row.counted), ran.status, said)
