@@ -51,6 +51,7 @@ impl Meeting {
     /// Waits for the other body, and says whether it came.
     ///
     /// Every second call ends the wait of the one before it, so one meeting serves several runs.
+    /// No clause says whether the other body came, since that hangs on the threads.
     pub fn wait<R: Wait>(&self, rt: &R) -> bool {
         let arrivals = self.arrivals.fetch_add(1, Ordering::SeqCst).wrapping_add(1);
         if arrivals % 2 == 0 {
