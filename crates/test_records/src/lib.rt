@@ -26,6 +26,8 @@ mod refusals;
 #[cfg(test)]
 mod shared_pairs;
 #[cfg(test)]
+mod shown_statistics;
+#[cfg(test)]
 mod std_devices;
 #[cfg(test)]
 mod table_refusals;
