@@ -26,7 +26,7 @@ mod refusals;
 #[cfg(test)]
 mod shared_pairs;
 #[cfg(test)]
-mod shown_statistics;
+mod shown_mismatches;
 #[cfg(test)]
 mod std_devices;
 #[cfg(test)]

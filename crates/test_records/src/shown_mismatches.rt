@@ -26,7 +26,7 @@ fn show(alloc: Global, record: &Record) -> Result<bool, AllocError> {
 }
 
 #[test]
-fn statistics_are_shown(rt: HostRuntime) {
+fn mismatches_are_shown(rt: HostRuntime) {
     let Some(record) = record_of(rt.alloc(), two_tests()) else {
         assert!(rt; false);
         return;
