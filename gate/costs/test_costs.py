@@ -256,6 +256,13 @@ def registrations() -> bytes:
     return f"{RECORD.replace('|T|', '|C|')}{BEGIN}{rounds}{END}".encode()
 
 
+def registered_by_the_last_worker() -> bytes:
+    """A record of an engine and of a test that worker 15, the last one, registers: keys begin at 65,536 times the worker's number."""
+    key = 15 * 65_536
+    made = f"E|15|{key}|0|dynamic|T|[engine:e]/[t:0]|n\n"
+    return f"{RECORD.replace('|T|', '|C|')}{BEGIN}{made}{events('start', 'finish|ok', keys=[key])}{END}".encode()
+
+
 def one_long_unit() -> bytes:
     """A plan of 15 concurrent units, one of which has 1,000,000 entries."""
     entries = ',"entries":[' + ",".join(["[]"] * 1_000_000) + "]"
@@ -332,6 +339,7 @@ ROWS = [
     row("record/lifecycle of 65,000 tests", "ask lifecycle", tests_of_an_engine, Costs(1.5, 29_300, 469_000, 285, 2), "yes\n"),
     row("record/lifecycle of 65,000 roots side by side", "ask lifecycle", roots_side_by_side, Costs(1.5, 15_400, 78_300, 69, 2), "yes\n"),
     row("record/lifecycle of 65,000 registered side by side", "ask lifecycle", registered_side_by_side, Costs(1.5, 23_300, 234_300, 107, 2), "yes\n"),
+    row("record/lifecycle of one registered by the last worker", "ask lifecycle", registered_by_the_last_worker, Costs(0.4, 8, 60, 2, 2), "yes\n"),
     row("record/lifecycle of one test", "ask lifecycle", REPORTS, Costs(1.2, 226_300, 230, 312, 2), "yes\n"),
     row("record/report of 65,000 tests", "ask report", tests_of_an_engine, Costs(1.6, 35_400, 391_000, 285, 50), "skipped 0\nstarted 65001\n"),
     row("record/100 conditions in order", "ask match in-order" + 99 * " started" + " failed", EVENTS, Costs(0.7, 25_000, 470, 312, 2), "no 99\n"),

@@ -1,8 +1,9 @@
 -- What one more event does to the states of keys.
-use Rattle.std.proofs.Common.{◌≡◌, ℕ, ◌+◌, Bool, true, false, ◌&&◌, ◌||◌, List, [], ◌∷◌, ◌++◌, Some, None, refl, sym, ap, ◌∙◌, subst, arith, eqb-true}
+use Rattle.std.proofs.Common.{◌≡◌, ℕ, ◌+◌, ◌≤◌, Bool, true, false, ◌&&◌, ◌||◌, List, [], ◌∷◌, ◌++◌, length, Some, None, refl, sym, ap, ◌∙◌, subst, arith, eqb-true}
 use Rattle.std.specs.Prelude.{◌==◌, if◌then◌else◌}
 use Rattle.std.specs.List.{sum_by}
 use Rattle.std.proofs.lemmas.Bool.{true≢false}
+use Rattle.std.proofs.lemmas.List.{length-append}
 use Rattle.std.proofs.lemmas.Option.{same_Some}
 use Rattle.tk_ids.specs.IdText.{SegmentView, parent_of}
 use Rattle.tk_events.specs.declared.kinds.Kind.{Kind}
@@ -167,10 +168,35 @@ module _ (past : Recorded) (e : Entry) (id : List SegmentView) (states new : Lis
       at true same = ap (λ j. children_after e.event.kind (state_of mid j).running_children) (eqb-true p k same) ∙ ap (children_after e.event.kind) (children_between mid put k)
       at false other = children_between mid put k
 
+  -- at most one child more runs
+  few_at : (mid : List KeyState) (p : Parent) → ArePut states mid e.event.key next → IsCounted e.event.kind p mid new → (k : ℕ) → (state_of new k).running_children ≤ length (past.entries ++ e ∷ [])
+  few_at mid p put count k = let before = are.few_children k in let long = length-append past.entries (e ∷ []) in let one = one_more p count in omega (arith, before, long, one)
+    where
+      one_more : (p : Parent) → IsCounted e.event.kind p mid new → (state_of new k).running_children ≤ (state_of states k).running_children + 1
+      one_more Unsought count = let same = ap (λ l. (state_of l k).running_children) count ∙ children_between mid put k in omega (arith, same)
+      one_more Root count = let same = ap (λ l. (state_of l k).running_children) count ∙ children_between mid put k in omega (arith, same)
+      one_more (Key p) count = let same = ap (λ (s : KeyState). s.running_children) (count.at k) in let more = by (p == k) refl in omega (arith, same, more)
+        where
+          after : (kind : Kind) (n : ℕ) → children_after kind n ≤ n + 1
+          after Started n = omega arith
+          after Finished n = omega arith
+          after Skipped n = omega arith
+          after Dynamic n = omega arith
+          after Reporting n = omega arith
+          after File n = omega arith
+
+          by : (same : Bool) → (p == k) ≡ same → (if same then counted e.event.kind (state_of mid p) else state_of mid k).running_children ≤ (state_of states k).running_children + 1
+          by true same =
+              let key = ap (λ j. (state_of mid j).running_children) (eqb-true p k same) ∙ children_between mid put k in
+              let more = after e.event.kind (state_of mid p).running_children in
+              omega (arith, key, more)
+          by false other = let same = children_between mid put k in omega (arith, same)
+
   pub states_more : AreAdvanced states new e parent → AreStates (with_entry past e) new
   states_more adv = record {
     phases = λ k. (after_all adv.0 parent adv.1 adv.2 k).0;
     parents = λ k. (after_all adv.0 parent adv.1 adv.2 k).1;
     successes = λ k. (after_all adv.0 parent adv.1 adv.2 k).2;
     children = λ k. children_at adv.0 parent refl adv.1 adv.2 k;
+    few_children = λ k. few_at adv.0 parent adv.1 adv.2 k;
   }

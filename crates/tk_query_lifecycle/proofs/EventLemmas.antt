@@ -1,19 +1,21 @@
 -- Which rule one more event breaks.
-use Rattle.std.proofs.Common.{◌≡◌, ◌≢◌, ℕ, suc, ◌<◌, ◌≤◌, ◌⊎◌, ⊎_elim, Bool, true, false, ◌&&◌, ◌||◌, not, List, [], ◌∷◌, length, slice_index_or, Option, Some, None, MatchOption, Ok, refl, sym, ap, ◌∙◌, subst, arith, eq-eqb, eqb-true}
+use Rattle.std.proofs.Common.{◌≡◌, ◌≢◌, ℕ, suc, ◌<◌, ◌≤◌, ◌⊎◌, ⊎_elim, Bool, true, false, ◌&&◌, ◌||◌, not, List, [], ◌∷◌, length, slice_get, Option, Some, None, MatchOption, Ok, refl, sym, ap, ◌∙◌, subst, arith, eq-eqb, eqb-true}
 use Rattle.std.specs.Prelude.{◌==◌, if◌then◌else◌}
 use Rattle.std.specs.List.{sum_by}
 use Rattle.std.specs.Option.{IsSomeAnd}
 use Rattle.std.proofs.lemmas.Bool.{true≢false}
-use Rattle.std.proofs.lemmas.List.{get_or_past}
-use Rattle.std.proofs.lemmas.List.Sums.{sum_by-cons, get_or-le-sum_by, sum_by-le}
-use Rattle.std.proofs.lemmas.Option.{same_Some, none-some}
+use Rattle.std.proofs.lemmas.List.{get_or_past, length-take-le}
+use Rattle.std.proofs.lemmas.List.Sums.{sum_by-cons, get_or-le-sum_by}
+use Rattle.std.proofs.lemmas.Option.{same_Some, none-some, slice_get_within}
 use Rattle.tk_ids.specs.IdText.{SegmentView, parent_of}
 use Rattle.tk_events.specs.declared.kinds.Kind.{Kind}
 use Rattle.tk_events.specs.declared.kinds.Kind.TheVariants.{Dynamic, Skipped, Started, Finished, Reporting, File}
 use Rattle.tk_events.specs.declared.events.Entry.{Entry}
 use Rattle.tk_events.specs.Event.{kind_code}
 use Rattle.tk_record.specs.Entries.{of_kind, with_entry}
+use Rattle.tk_record.specs.Record.{IsRecord}
 use Rattle.tk_record.specs.Recorded.{Recorded}
+use Rattle.tk_record.specs.declared.records.TheConstants.{MAX_ENTRIES}
 use Rattle.tk_query_lifecycle.specs.Lifecycle.{HasId, has_event, has_run, runs, rank, Breaks, BreaksFirst, BreaksNone, KnowsId, KnowsNoParent, HasNoRunningParent, RunsAgain, EndsNothing, LeavesChild}
 use Rattle.tk_query_lifecycle.specs.steps.KeyStates.{idle, state_of, is_key, is_running}
 use Rattle.tk_query_lifecycle.specs.steps.KeyStates.{running_child, refusal, start_refusal}
@@ -356,20 +358,18 @@ module _ (past : Recorded) (e : Entry) (id : List SegmentView) (states : List Ke
 -- before the first event
 pub progress_first : (r : Recorded) (states : List KeyState) (ids : List (List ℕ × ℕ)) → states ≡ [] → ids ≡ [] → AreDifferent r.table → IsProgress (first_entries 0 r) states ids
 progress_first r states ids none empty different = record {
-  states_are = subst (AreStates (first_entries 0 r)) (sym none) (record { phases = λ key. (refl, refl); parents = λ key. refl; successes = λ key. refl; children = λ key. refl });
+  states_are = subst (AreStates (first_entries 0 r)) (sym none) (record { phases = λ key. (refl, refl); parents = λ key. refl; successes = λ key. refl; children = λ key. refl; few_children = λ key. omega arith });
   ids_are = ids_first r.table ids empty different;
 }
 
--- no more children run than there are states
-pub few_children : (r : Recorded) (states : List KeyState) → AreStates r states → (key : ℕ) → (state_of states key).running_children ≤ length states
-few_children r states are key =
-    let sum = are.children key in
-    let most = sum_by-le (running_child key) 1 states (λ k d lt. at_most (is_running (slice_index_or states k d).phase && is_key key (slice_index_or states k d).parent)) in
-    omega (arith, sum, most)
-  where
-    at_most : (b : Bool) → (let n : ℕ = if b then 1 else 0 in n) ≤ 1
-    at_most true = omega arith
-    at_most false = omega arith
+-- the number of a key's running children has room for one more
+pub room_for_child : (r : Recorded) (p : ℕ) (e : Entry) (states : List KeyState) → IsRecord r → slice_get r.entries p ≡ Some e → AreStates (first_entries p r) states → (key : ℕ) → (state_of states key).running_children < MAX_ENTRIES
+room_for_child r p e states is stands are key =
+    let few = are.few_children key in
+    let within = slice_get_within r.entries p e stands in
+    let taken = length-take-le p r.entries (omega (arith, within)) in
+    let short = is.short in
+    omega (arith, few, within, taken, short)
 
 -- what the checks of an event find
 module _ (past : Recorded) (e : Entry) (id : List SegmentView) (states : List KeyState) (ids : List (List ℕ × ℕ))

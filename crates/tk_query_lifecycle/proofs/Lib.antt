@@ -1,4 +1,5 @@
 pub mod ListLemmas
+pub mod RowLemmas
 pub mod StateLemmas
 pub mod FirstEntries
 pub mod PhaseLemmas

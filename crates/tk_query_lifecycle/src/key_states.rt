@@ -1,14 +1,16 @@
 //! What is kept of each key while the events of a record are gone through.
-ghost use Rattle.std.specs.Prelude.{◌≡◌, ℕ, ◌≤◌, ◌^◌, [], length, not, OnOk};
+ghost use Rattle.std.specs.Prelude.{◌≡◌, ℕ, ◌<◌, [], get_or, not, set, IfSome, OnOk};
 ghost use Rattle.tk_events.specs.declared.statuses.Status.TheVariants.{Successful};
 ghost use Rattle.tk_record.specs.Entries.{of_status};
 ghost use Rattle.tk_record.specs.Record.{entry_of_view};
-ghost use Rattle.tk_query_lifecycle.specs.steps.KeyStates.{idle, is_idle, is_running, state_of, advanced, refusal, ArePut, IsCounted, IsFirstRunning};
+ghost use Rattle.tk_record.specs.declared.records.TheConstants.{MAX_ENTRIES};
+ghost use Rattle.tk_query_lifecycle.specs.steps.KeyStates.{idle, is_idle, is_running, padded, state_of, advanced, refusal, ArePut, IsCounted, IsFirstRunning};
 
 use crate::lifecycle_rules::LifecycleRule;
 use std::alloc::{AllocError, Global};
 use std::marker::Model;
 use tk_events::{Kind, Payload, Status};
+use tk_ids::MAX_DESCRIPTORS;
 use tk_record::EntryView;
 
 /// Where a key is in its execution.
@@ -39,7 +41,7 @@ pub(crate) struct KeyState {
     pub(crate) phase: Phase,
     pub(crate) succeeded: bool,
     pub(crate) parent: Parent,
-    pub(crate) running_children: usize,
+    pub(crate) running_children: u32,
 }
 
 // Whether an event is a successful finish.
@@ -113,24 +115,90 @@ impl KeyState {
     }
 }
 
-/// The states of keys; a key without one is idle.
+/// How many keys share a row: the static ones, or those that one worker may register.
+pub(crate) const KEYS_IN_ROW: usize = MAX_DESCRIPTORS;
+
+/// The states of the first keys of a row; a key without one is idle.
 #[derive(Drop)]
-pub(crate) struct KeyStates {
+struct Row {
     items: Vec<KeyState>,
 }
 
-impl Model for KeyStates {
-    ghost use Rattle.std.specs.Prelude.{List};
+impl Model for Row {
+    ghost use Rattle.std.specs.Prelude.{List, ◌≤◌, length};
     ghost use Rattle.tk_query_lifecycle.specs.declared.key_states.KeyState.{KeyState};
+    ghost use Rattle.tk_query_lifecycle.specs.declared.key_states.TheConstants.{KEYS_IN_ROW};
 
     ghost Value = { List KeyState };
 
-    ghost view = { λ s. s.items.items };
+    ghost view = { λ row. row.items.items };
+
+    ghost invariant = { λ row. length row.items.items ≤ KEYS_IN_ROW };
+}
+
+impl Row {
+    fn new(alloc: Global) -> Row
+        ensures { result ≡ [] }
+    {
+        Row {
+            items: Vec::new(alloc),
+        }
+    }
+
+    fn at(&self, index: usize) -> KeyState
+        ensures { result ≡ state_of self.now index }
+    {
+        match self.items.get(index) {
+            Some(state) => *state,
+            None => KeyState::idle(),
+        }
+    }
+
+    fn put(&mut self, index: usize, state: KeyState) -> Result<(), AllocError>
+        requires { index < KEYS_IN_ROW }
+        ensures { OnOk result
+            (padded KEYS_IN_ROW self.new ≡ set (padded KEYS_IN_ROW self.old) index state) }
+    {
+        while self.items.len() <= index {
+            self.items.push(KeyState::idle())?;
+        }
+        self.items[index] = state;
+        Ok(())
+    }
+
+    fn first_running(&self) -> Option<u32>
+        ensures first { IsFirstRunning self.now result }
+        ensures within { IfSome result (λ index. index < KEYS_IN_ROW) }
+    {
+        for (index, state) in self.items.iter().enumerate() {
+            if state.runs() {
+                return Some(index as u32);
+            }
+        }
+        None
+    }
+}
+
+/// The states of keys, which a contract sees in the order of the keys; a key without one is idle.
+///
+/// There is a row for the static keys, and one for those that each worker registers: so a key
+/// registered by the last worker takes no memory for the keys of the others.
+#[derive(Drop)]
+pub(crate) struct KeyStates {
+    rows: Vec<Row>,
+}
+
+impl Model for KeyStates {
+    ghost use Rattle.std.specs.Prelude.{List, ◌≤◌, ◌^◌, length};
+    ghost use Rattle.tk_query_lifecycle.specs.declared.key_states.KeyState.{KeyState};
+    ghost use Rattle.tk_query_lifecycle.specs.steps.KeyStates.{by_key};
+
+    ghost Value = { List KeyState };
+
+    ghost view = { λ s. by_key s.rows.items };
 
     // Keys are u32.
-    ghost use Rattle.std.specs.Prelude.{◌≤◌, ◌^◌, length};
-
-    ghost invariant = { λ s. length s.items.items ≤ 2 ^ 32 };
+    ghost invariant = { λ s. length s.rows.items ≤ 2 ^ 16 };
 }
 
 impl KeyStates {
@@ -139,49 +207,53 @@ impl KeyStates {
         ensures { result ≡ [] }
     {
         KeyStates {
-            items: Vec::new(alloc),
+            rows: Vec::new(alloc),
         }
     }
 
     /// The state of a key.
     pub(crate) fn at(&self, key: u32) -> KeyState
-        ensures state { result ≡ state_of self.now key }
-        ensures short { length self.now ≤ 2 ^ 32 }
+        ensures { result ≡ state_of self.now key }
     {
-        match self.items.get(key as usize) {
-            Some(state) => *state,
+        match self.rows.get(key as usize / KEYS_IN_ROW) {
+            Some(row) => row.at(key as usize % KEYS_IN_ROW),
             None => KeyState::idle(),
         }
     }
 
     // Stores the state of a key.
-    fn put(&mut self, key: u32, state: KeyState) -> Result<(), AllocError>
-        ensures put { OnOk result (ArePut self.old self.new key state) }
-        ensures short { length self.new ≤ 2 ^ 32 }
-        ensures grows { OnOk result (length self.old ≤ length self.new) }
+    fn put(&mut self, alloc: Global, key: u32, state: KeyState) -> Result<(), AllocError>
+        ensures { OnOk result (ArePut self.old self.new key state) }
     {
-        let index = key as usize;
-        while self.items.len() <= index {
-            self.items.push(KeyState::idle())?;
+        let row = key as usize / KEYS_IN_ROW;
+        while self.rows.len() <= row {
+            self.rows.push(Row::new(alloc))?;
         }
-        self.items[index] = state;
-        Ok(())
+        self.rows[row].put(key as usize % KEYS_IN_ROW, state)
     }
 
     /// Takes an event of a key whose parent was looked up.
-    pub(crate) fn advance(&mut self, event: &EntryView, parent: Parent) -> Result<(), AllocError>
-        ensures put { OnOk result (ArePut self.old self.new event.now.key
+    pub(crate) fn advance(
+        &mut self,
+        alloc: Global,
+        event: &EntryView,
+        parent: Parent,
+    ) -> Result<(), AllocError>
+        ensures { OnOk result (ArePut self.old self.new event.now.key
             (advanced (entry_of_view event.now) parent (state_of self.old event.now.key))) }
-        ensures short { length self.new ≤ 2 ^ 32 }
-        ensures grows { OnOk result (length self.old ≤ length self.new) }
     {
         let state = self.at(event.key).advance(event, parent);
-        self.put(event.key, state)
+        self.put(alloc, event.key, state)
     }
 
     /// Counts a child of `parent` that starts, and no longer one that finishes.
-    pub(crate) fn count_child(&mut self, parent: Parent, kind: Kind) -> Result<(), AllocError>
-        requires { (key : ℕ) → (state_of self.old key).running_children ≤ length self.old }
+    pub(crate) fn count_child(
+        &mut self,
+        alloc: Global,
+        parent: Parent,
+        kind: Kind,
+    ) -> Result<(), AllocError>
+        requires { (key : ℕ) → (state_of self.old key).running_children < MAX_ENTRIES }
         ensures { OnOk result (IsCounted kind parent self.old self.new) }
     {
         let Parent::Key(key) = parent else {
@@ -195,16 +267,16 @@ impl KeyStates {
             }
             _ => {}
         }
-        self.put(key, state)
+        self.put(alloc, key, state)
     }
 
     /// The least key that runs.
     pub(crate) fn first_running(&self) -> Option<u32>
         ensures { IsFirstRunning self.now result }
     {
-        for (key, state) in self.items.iter().enumerate() {
-            if state.runs() {
-                return Some(key as u32);
+        for (number, row) in self.rows.iter().enumerate() {
+            if let Some(index) = row.first_running() {
+                return Some((number * KEYS_IN_ROW) as u32 + index);
             }
         }
         None

@@ -1,11 +1,12 @@
 //! What one more event of a record breaks, and what it changes.
-ghost use Rattle.std.specs.Prelude.{◌≡◌, ℕ, ◌≤◌, length, Some, IfOk, OnOk, slice_get};
+ghost use Rattle.std.specs.Prelude.{◌≡◌, ℕ, ◌<◌, Some, IfOk, OnOk, slice_get};
 ghost use Rattle.tk_ids.specs.IdText.{IsId};
 ghost use Rattle.tk_events.specs.declared.kinds.Kind.TheVariants.{Dynamic};
 ghost use Rattle.tk_ids.specs.Table.{AreDifferent};
 ghost use Rattle.tk_record.specs.Entries.{of_kind, with_entry};
 ghost use Rattle.tk_record.specs.Recorded.{Recorded};
 ghost use Rattle.tk_record.specs.Record.{entry_of_view};
+ghost use Rattle.tk_record.specs.declared.records.TheConstants.{MAX_ENTRIES};
 ghost use Rattle.tk_query_lifecycle.specs.Lifecycle.{HasId, first_entries};
 ghost use Rattle.tk_query_lifecycle.specs.steps.Progress.{AreAdvanced, AreIds, AreNoted, IsChecked, IsFirstOfNeverRun, IsFirstOfRuns, IsFound, IsKnownId, IsKnownParent, IsProgress, IsSought, IsTaken, IsWhetherNeverRun, is_at_rest, is_due, missing_parent, next_event};
 ghost use Rattle.tk_query_lifecycle.specs.steps.KeyStates.{state_of};
@@ -151,12 +152,12 @@ impl Progress {
     // Takes an event that breaks no rule.
     fn note(
         &mut self,
+        alloc: Global,
         descriptor: &Descriptor,
         event: &EntryView,
         parent: Parent,
     ) -> Result<(), AllocError>
-        requires { (key : ℕ) → (state_of self.old.states key).running_children
-            ≤ length self.old.states }
+        requires { (key : ℕ) → (state_of self.old.states key).running_children < MAX_ENTRIES }
         ensures ids { OnOk result (AreNoted self.old.ids self.new.ids
             (entry_of_view event.now) descriptor.now.id) }
         ensures id { OnOk result (IsId descriptor.now.id) }
@@ -168,8 +169,8 @@ impl Progress {
         if registers(event) {
             self.ids.note(&descriptor.id, event.key)?;
         }
-        self.states.advance(event, parent)?;
-        self.states.count_child(parent, event.kind)
+        self.states.advance(alloc, event, parent)?;
+        self.states.count_child(alloc, parent, event.kind)
     }
 
     /// Takes the event at a position, and answers the first rule that it breaks.
@@ -194,7 +195,7 @@ impl Progress {
         match self.check(alloc, record, descriptor, event)? {
             Err(rule) => Ok(Some(rule)),
             Ok(parent) => {
-                self.note(descriptor, event, parent)?;
+                self.note(alloc, descriptor, event, parent)?;
                 Ok(None)
             }
         }

@@ -2,6 +2,8 @@
 use Rattle.std.specs.Prelude.{
   ◌≡◌,
   ℕ,
+  zero,
+  suc,
   ◌+◌,
   ◌-◌,
   ◌<◌,
@@ -13,6 +15,9 @@ use Rattle.std.specs.Prelude.{
   ◌==◌,
   if◌then◌else◌,
   List,
+  [],
+  ◌∷◌,
+  ◌++◌,
   get_or,
   Option,
   Some,
@@ -39,6 +44,7 @@ use Rattle.tk_query_lifecycle.specs.declared.lifecycle_rules.LifecycleRule.TheVa
   NotRunning,
   ChildRunning,
 }
+use Rattle.tk_query_lifecycle.specs.declared.key_states.TheConstants.{KEYS_IN_ROW}
 use Rattle.tk_query_lifecycle.specs.declared.key_states.Phase.{Phase}
 use Rattle.tk_query_lifecycle.specs.declared.key_states.Phase.TheVariants.{Idle, Running, Ended}
 use Rattle.tk_query_lifecycle.specs.declared.key_states.Parent.{Parent}
@@ -52,6 +58,17 @@ key_under entries text = lookup (bytes_eq text) entries
 -- the state of a key without an event
 abbrev pub idle : KeyState
 idle = record { phase = Idle; succeeded = false; parent = Unsought; running_children = 0 }
+
+-- the first n states of a row, where idle ones follow its own
+unfoldable pub padded : ℕ → List KeyState → List KeyState
+padded zero row = []
+padded (suc n) [] = idle ∷ padded n []
+padded (suc n) (s ∷ row) = s ∷ padded n row
+
+-- the states in the order of their keys, which stand in rows of `KEYS_IN_ROW`
+unfoldable pub by_key : List (List KeyState) → List KeyState
+by_key [] = []
+by_key (row ∷ rows) = padded KEYS_IN_ROW row ++ by_key rows
 
 -- the state of a key
 abbrev pub state_of : List KeyState → ℕ → KeyState

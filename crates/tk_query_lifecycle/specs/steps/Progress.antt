@@ -3,6 +3,7 @@ use Rattle.std.specs.Prelude.{
   ◌≡◌,
   ℕ,
   ◌<◌,
+  ◌≤◌,
   Bool,
   true,
   false,
@@ -84,6 +85,8 @@ pub record AreStates (r : Recorded) (states : List KeyState) : Type 0 where
   pub parents : (key : ℕ) → IsParentOf r key (state_of states key).parent
   pub children :
       (key : ℕ) → (state_of states key).running_children ≡ sum_by (running_child key) states
+  -- so that their number has room: each child that runs was started by an event
+  pub few_children : (key : ℕ) → (state_of states key).running_children ≤ length r.entries
 
 -- the keys of registered ids, by their texts: those of all ids that no static descriptor has
 pub record AreIds (r : Recorded) (ids : List (List ℕ × ℕ)) : Type 0 where

@@ -18,17 +18,17 @@ returns-in_default c past same p its =
 pub returns-then-is_at_rest : goal.returns-then-is_at_rest
 returns-then-is_at_rest c past same p its =
     checked_at_rest past (entry_of_view c.args.event.now) c.args.descriptor.now.id c.args.self.now.states c.args.self.now.ids p its c.registers-registers.result c.knows_id.result c.registers-registers.ensures
-    (c.knows_id.ensures past same p.ids_are) c.if-knows_id.false c.at-state.result c.at-state.ensures.state c.in_ok-parent.field-0 c.in-Some.parent (c.in_ok-parent.ensures past same p.ids_are) c.in-Some.is
+    (c.knows_id.ensures past same p.ids_are) c.if-knows_id.false c.at-state.result c.at-state.ensures c.in_ok-parent.field-0 c.in-Some.parent (c.in_ok-parent.ensures past same p.ids_are) c.in-Some.is
     c.is_at_rest.result c.is_at_rest.ensures c.if-is_at_rest.true
 
 pub returns-in-Some-refuse : goal.returns-in-Some-refuse
 returns-in-Some-refuse c past same p its =
     checked_own past (entry_of_view c.args.event.now) c.args.descriptor.now.id c.args.self.now.states c.args.self.now.ids p its c.registers-registers.result c.knows_id.result c.registers-registers.ensures
-    (c.knows_id.ensures past same p.ids_are) c.if-knows_id.false c.at-state.result c.at-state.ensures.state c.in_ok-parent.field-0 c.in-Some.parent (c.in_ok-parent.ensures past same p.ids_are) c.in-Some.is
+    (c.knows_id.ensures past same p.ids_are) c.if-knows_id.false c.at-state.result c.at-state.ensures c.in_ok-parent.field-0 c.in-Some.parent (c.in_ok-parent.ensures past same p.ids_are) c.in-Some.is
     c.is_at_rest.result c.is_at_rest.ensures c.if-is_at_rest.false c.refuse.result c.in-Some-refuse.rule c.refuse.ensures c.in-Some-refuse.is
 
 pub returns-in-None : goal.returns-in-None
 returns-in-None c past same p its =
     checked_none past (entry_of_view c.args.event.now) c.args.descriptor.now.id c.args.self.now.states c.args.self.now.ids p its c.registers-registers.result c.knows_id.result c.registers-registers.ensures
-    (c.knows_id.ensures past same p.ids_are) c.if-knows_id.false c.at-state.result c.at-state.ensures.state c.in_ok-parent.field-0 c.in-Some.parent (c.in_ok-parent.ensures past same p.ids_are) c.in-Some.is
+    (c.knows_id.ensures past same p.ids_are) c.if-knows_id.false c.at-state.result c.at-state.ensures c.in_ok-parent.field-0 c.in-Some.parent (c.in_ok-parent.ensures past same p.ids_are) c.in-Some.is
     c.is_at_rest.result c.is_at_rest.ensures c.if-is_at_rest.false c.refuse.result c.refuse.ensures c.in-None.is

@@ -3,12 +3,12 @@ use Rattle.std.specs.Option.{option_copied}
 use Rattle.tk_record.specs.Record.{entry_of_view}
 use Rattle.tk_query_lifecycle.specs.Lifecycle.{first_entries}
 use Rattle.tk_query_lifecycle.proofs.FirstEntries.{its_id}
-use Rattle.tk_query_lifecycle.proofs.EventLemmas.{few_children}
+use Rattle.tk_query_lifecycle.proofs.EventLemmas.{room_for_child}
 use Rattle.tk_query_lifecycle.proofs.TakeLemmas.{taken, taken_broken}
 use Rattle.tk_query_lifecycle.proofs.progress.Progress.take.Goals as goal
 
 pub note-requires : goal.note-requires
-note-requires c = few_children (first_entries c.args.position c.args.record.now) c.args.self.now.states c.requires.progress.states_are
+note-requires c = room_for_child c.args.record.now c.args.position (entry_of_view c.args.event.now) c.args.self.now.states c.shows_record.ensures c.requires.stands c.requires.progress.states_are
 
 pub returns-in-Err : goal.returns-in-Err
 returns-in-Err c =
