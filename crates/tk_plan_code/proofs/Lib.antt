@@ -1,1 +1,2 @@
+pub mod BodyNumbers
 pub mod JsonObjects

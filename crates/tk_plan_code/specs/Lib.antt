@@ -1,2 +1,3 @@
 pub mod NodeViews
 pub mod NodeJson
+pub mod Bodies

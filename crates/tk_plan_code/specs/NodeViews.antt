@@ -11,7 +11,7 @@ use Rattle.tk_plan_code.specs.declared.plan_nodes.PlanNode.{PlanNode}
 use Rattle.tk_plan_code.specs.declared.plan_nodes.PlanNode.TheOpen.{PlanNode-F}
 use Rattle.tk_plan_code.specs.declared.plan_nodes.PlanNode.TheViews.{out-PlanNode}
 
--- what the members of a node are, with an A for each node below it
+-- what a node says: its members in JSON, and the number of its body; with an A for each node below
 pub record NodeView (A : Type 0) : Type 0 where
   pub dtype : DType
   pub tag : List ℕ
@@ -27,6 +27,7 @@ pub record NodeView (A : Type 0) : Type 0 where
   pub files : List (List ℕ)
   pub children : List A
   pub dynamic : List A
+  pub body : Option ℕ
 
 abbrev pub text_of : Option (Bor (List ℕ)) → Option (List ℕ)
 text_of text = option_map (λ t. t.now) text
@@ -54,12 +55,13 @@ layer_view n = record {
   files = texts_of n.files.items;
   children = n.children.items;
   dynamic = n.dynamic.items;
+  body = n.body;
 }
 
 abbrev pub node_view : PlanNode → NodeView PlanNode
 node_view n = layer_view (out-PlanNode n)
 
--- A node alone that runs in its parent's thread, asks for no lock, and succeeds.
+-- A node alone that runs in its parent's thread, asks for no lock, succeeds, and has no body.
 abbrev pub plain : DType → Bor (List ℕ) × Bor (List ℕ) → Bor (List ℕ) → NodeView PlanNode
 plain dtype segment name = record {
   dtype = dtype;
@@ -76,4 +78,5 @@ plain dtype segment name = record {
   files = [];
   children = [];
   dynamic = [];
+  body = None;
 }

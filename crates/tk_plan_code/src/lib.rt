@@ -1,15 +1,18 @@
 //! Plans in code: a tree of nodes, and the JSON value that says the same.
 //!
-//! - What an author writes: `plan_nodes`, with its words in `modes`.
+//! - What an author writes: `plan_nodes`, with its words in `modes`, and the numbers of bodies in
+//!   `bodies`.
 //! - Its JSON value, for `build_plan`: `node_values`; lists of members in `json_members`, the words
 //!   in `words`.
 #![tactic(auto)]
 
+mod bodies;
 mod json_members;
 mod modes;
 pub mod node_values;
 mod plan_nodes;
 mod words;
 
+pub use bodies::Bodies;
 pub use modes::ExecutionMode;
 pub use plan_nodes::{PlanLock, PlanNode};

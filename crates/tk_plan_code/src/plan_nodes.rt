@@ -1,8 +1,10 @@
 //! Nodes of a plan in code.
 ghost use Rattle.std.specs.Prelude.{◌≡◌, ◌++◌, ◌∷◌, [], true, Some, IfOk};
 ghost use Rattle.tk_ids.specs.declared.descriptors.DType.TheVariants.{Container, Test, Both};
+ghost use Rattle.tk_plan_code.specs.Bodies.{bodies_of};
 ghost use Rattle.tk_plan_code.specs.NodeViews.{node_view, plain, pairs_of, text_of};
 
+use crate::bodies::Bodies;
 use crate::modes::ExecutionMode;
 use std::alloc::{AllocError, Global};
 use tk_events::Status;
@@ -20,8 +22,8 @@ pub struct PlanLock<'t> {
 /// A node of a plan in code, with all nodes below it. It borrows its texts, which `build_plan`
 /// copies.
 ///
-/// Each field is a member of a node in JSON (docs/FORMATS.md, Plan JSON), and is checked as that
-/// member is: only a static node may have a mode, be isolated, have locks or children.
+/// Each field but `body` is a member of a node in JSON (docs/FORMATS.md, Plan JSON), and is checked
+/// as that member is: only a static node may have a mode, be isolated, have locks or children.
 #[derive(Debug, Drop)]
 pub struct PlanNode<'t> {
     /// Whether the node is a test, a container, or both: the member `type`.
@@ -52,6 +54,8 @@ pub struct PlanNode<'t> {
     pub children: Vec<PlanNode<'t>>,
     /// The nodes below it that are registered as it runs.
     pub dynamic: Vec<PlanNode<'t>>,
+    /// The number of the body that runs for it, if it has one; no member of the node in JSON.
+    pub body: Option<u32>,
 }
 
 impl<'t> PlanNode<'t> {
@@ -81,6 +85,7 @@ impl<'t> PlanNode<'t> {
             files: Vec::new(alloc),
             children: Vec::new(alloc),
             dynamic: Vec::new(alloc),
+            body: None,
         }
     }
 
@@ -159,6 +164,16 @@ impl<'t> PlanNode<'t> {
         self
     }
 
+    /// Sets the number of the body that runs for the node, if it is a static test.
+    ///
+    /// The plan doesn't have it: [`PlanNode::bodies`] collects the numbers of the tree.
+    pub fn body(mut self, number: u32) -> PlanNode<'t>
+        ensures { node_view result ≡ record (node_view self.entry) { body = Some number } }
+    {
+        self.body = Some(number);
+        self
+    }
+
     /// Adds an entry that the node publishes, a list of keys and values.
     ///
     /// # Errors
@@ -198,6 +213,19 @@ impl<'t> PlanNode<'t> {
         Ok(self)
     }
 
+    /// Adds static nodes below the node, in their order, after those that are there.
+    ///
+    /// # Errors
+    /// `AllocError` where a request for memory is refused.
+    pub fn children(mut self, mut nodes: Vec<PlanNode<'t>>) -> Result<PlanNode<'t>, AllocError>
+        ensures { IfOk result (λ n. node_view n ≡ record (node_view self.entry) {
+          children = (node_view self.entry).children ++ nodes.entry.items;
+        }) }
+    {
+        self.children.append(&mut nodes)?;
+        Ok(self)
+    }
+
     /// Adds a node below the node that is registered as the node runs.
     ///
     /// # Errors
@@ -209,5 +237,18 @@ impl<'t> PlanNode<'t> {
     {
         self.dynamic.push(node)?;
         Ok(self)
+    }
+
+    /// Collects the numbers of the bodies of the tree with this root, by the keys of its plan.
+    ///
+    /// The keys of static nodes are in preorder: a node's stands before those of its children. So the
+    /// numbers are those of the plan that `build_plan` makes of the same root.
+    ///
+    /// # Errors
+    /// `AllocError` where a request for memory is refused.
+    pub fn bodies(&self, alloc: Global) -> Result<Bodies, AllocError>
+        ensures { IfOk result (λ bodies. bodies ≡ bodies_of self.now) }
+    {
+        Bodies::of(alloc, self)
     }
 }
