@@ -1,2 +1,3 @@
 -- What clauses cite of needs and locks.
-pub use Rattle.tk_locks.specs.Needs.{Conflict, access, access_of, word_of}
+pub use Rattle.tk_locks.specs.Needs.{Access, Conflict, access, access_of, access_with}
+pub use Rattle.tk_locks.specs.Needs.{nothing, reads, word_of, writes}

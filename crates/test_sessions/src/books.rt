@@ -144,10 +144,17 @@ fn one_to_fifteen_seats(rt: HostRuntime) -> Result<(), Fail> {
     Ok(())
 }
 
+// A need that reads resource 0 and writes resource 1.
+fn reader_and_writer() -> Option<Need> {
+    Need::none().reading(0)?.reading(1)?.writing(1)?.reading(1)
+}
+
 #[test]
 fn words_of_needs(rt: HostRuntime) {
     assert_eq!(rt; Need::of(1, 2).word(), 0xF1);
     assert_eq!(rt; Need::of(3, 2).word(), 0xF1);
+    assert!(rt; matches!(reader_and_writer(), Some(need) if need.word() == 0xF1));
+    assert!(rt; Need::none().writing(16).is_none());
 }
 
 #[test]

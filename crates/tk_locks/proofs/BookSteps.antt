@@ -15,7 +15,7 @@ use Rattle.tk_locks.specs.NeedView.{NeedView}
 use Rattle.tk_locks.specs.Needs.{lane, word_of}
 use Rattle.tk_locks.specs.Holdings.{AreCompatible, WereHeld, held_lane, held_word}
 use Rattle.tk_locks.specs.declared.rules.SeatNote.{SeatNote}
-use Rattle.tk_locks.specs.LockWord.{seat_note, holdings, HoldingsFitWord, HasTaken, WordWasLoaded, WasExchanged, WasReleased}
+use Rattle.tk_locks.specs.LockWord.{seat_note, holdings, HoldingsFitWord, WordWasLoaded, WasExchanged, WasReleased}
 use Rattle.tk_locks.proofs.LaneConflicts.{lanes_agree, sum_lane, word_lt, word_lane}
 use Rattle.tk_locks.proofs.ListSums.{set_there, flat_get, flat_turn, flat_same, flat_part, length_turn, flat_lone}
 

@@ -1,6 +1,7 @@
 pub mod LaneWords
 pub mod LaneConflicts
 pub mod Masks
+pub mod AddedAccess
 pub mod ListSums
 pub mod BookSteps
 pub mod RefusedTries

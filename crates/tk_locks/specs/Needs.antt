@@ -1,5 +1,5 @@
 -- What a need asks of each resource, when two needs conflict, and a need as a word.
-use Rattle.std.specs.Prelude.{ℕ, zero, suc, ◌<◌}
+use Rattle.std.specs.Prelude.{ℕ, zero, suc, ◌<◌, ◌==◌, if◌then◌else◌}
 use Rattle.std.specs.Int.{bit_at}
 use Rattle.tk_locks.specs.NeedView.{NeedView}
 use Rattle.tk_locks.specs.Words.{packed}
@@ -19,6 +19,17 @@ access_of r (suc w) = writes
 -- what the need asks of resource i
 abbrev pub access : NeedView → ℕ → Access
 access n i = access_of (bit_at n.reads i) (bit_at n.writes i)
+
+-- the stronger of two accesses to a resource: a write stands over a read
+abbrev pub stronger : Access → Access → Access
+stronger nothing b = b
+stronger reads writes = writes
+stronger reads b = reads
+stronger writes b = writes
+
+-- what a need asks of resource i, once it asks for this access to a resource too
+abbrev pub access_with : NeedView → ℕ → Access → ℕ → Access
+access_with n resource a i = if resource == i then stronger (access n i) a else access n i
 
 -- at one resource, one of two needs writes what the other reads or writes
 abbrev pub Clash : Access → Access → Type 0

@@ -1,7 +1,8 @@
 //! What a unit of work needs of sixteen resources.
-ghost use Rattle.std.specs.Prelude.{◌≡◌, ℕ, ◌<◌, ◌≤◌, ◌↔◌, IsTrue, bit_and};
+ghost use Rattle.std.specs.Prelude.{◌≡◌, ℕ, ◌<◌, ◌≤◌, ◌↔◌, IsTrue, IfSome, IsSome, bit_and};
 ghost use Rattle.std.specs.Int.{bit_at};
-ghost use Rattle.tk_locks.specs.Needs.{access, access_of, weight, Conflict, word_of};
+ghost use Rattle.tk_locks.specs.Needs.{access, access_of, access_with, weight, Conflict, word_of};
+ghost use Rattle.tk_locks.specs.Needs as Needs;
 
 use std::marker::Model;
 
@@ -52,6 +53,41 @@ impl Need {
             reads: reads & !writes,
             writes,
         }
+    }
+
+    /// Makes a need of no resource.
+    pub fn none() -> Need
+        ensures { (r : ℕ) → r < 16 → access result r ≡ Needs.nothing }
+    {
+        Need::of(0, 0)
+    }
+
+    /// Adds a read of a resource, by its number. A resource that is written stays so.
+    ///
+    /// The answer is `None` where there is no such resource: the number is 16 or more.
+    pub fn reading(self, resource: u32) -> Option<Need>
+        ensures known { IsSome result ↔ (resource < 16) }
+        ensures added { IfSome result (λ need. (r : ℕ) → r < 16
+            → access need r ≡ access_with self resource Needs.reads r) }
+    {
+        if resource >= 16 {
+            return None;
+        }
+        Some(Need::of(self.reads | 1 << resource, self.writes))
+    }
+
+    /// Adds a write of a resource, by its number.
+    ///
+    /// The answer is `None` where there is no such resource: the number is 16 or more.
+    pub fn writing(self, resource: u32) -> Option<Need>
+        ensures known { IsSome result ↔ (resource < 16) }
+        ensures added { IfSome result (λ need. (r : ℕ) → r < 16
+            → access need r ≡ access_with self resource Needs.writes r) }
+    {
+        if resource >= 16 {
+            return None;
+        }
+        Some(Need::of(self.reads, self.writes | 1 << resource))
     }
 
     /// Returns the mask of the resources that are read and not written.

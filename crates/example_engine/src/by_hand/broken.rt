@@ -113,6 +113,6 @@ pub fn broken_engine(
         // No allocation failed here: one failed in `lock`, since descriptor and name are there.
         locked.map_err(|_| TableFault::Memory)?;
     }
-    table.add_unit(Need::of(0, 0))?;
+    table.add_unit(Need::none())?;
     Ok(UnitEngine::new(alloc, table, BrokenUnits { defect })?)
 }

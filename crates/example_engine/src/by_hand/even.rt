@@ -36,7 +36,7 @@ impl EvenEngine {
         let mut table = Table::new(alloc);
         let key = table.add(alloc, None, &root, "even", DType::Container)?;
         let _test = table.add(alloc, Some(key), &test, "number", DType::Test)?;
-        let (need, table) = (Need::of(0, 0), Arc::new(alloc, table)?);
+        let (need, table) = (Need::none(), Arc::new(alloc, table)?);
         Ok(EvenEngine {
             number,
             need,

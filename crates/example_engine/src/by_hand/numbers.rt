@@ -30,7 +30,7 @@ pub fn number_engine(alloc: Global) -> Result<UnitEngine<NumberUnits>, TableFaul
     let mut table = UnitTable::new(alloc, ("engine", "numbers"), "numbers")?;
     let _four = table.add(alloc, 0, ("number", "4"), "four", DType::Test)?;
     let _five = table.add(alloc, 0, ("number", "5"), "five", DType::Test)?;
-    table.add_unit(Need::of(0, 0))?;
-    table.add_unit(Need::of(0, 0))?;
+    table.add_unit(Need::none())?;
+    table.add_unit(Need::none())?;
     Ok(UnitEngine::new(alloc, table, NumberUnits)?)
 }

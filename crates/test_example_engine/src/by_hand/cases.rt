@@ -9,7 +9,7 @@ use std::thread::Threads;
 // A run of the three tables, which share one lock.
 fn run<R: Threads + Wait + Sync>(rt: &R, alloc: Global, workers: usize) -> Option<Results> {
     let tables = tables();
-    let engine = CaseEngine::new(alloc, &Halves, &tables, Need::of(0, 1)).ok()?;
+    let engine = CaseEngine::new(alloc, &Halves, &tables, Need::none().writing(0)?).ok()?;
     execute(rt, alloc, &engine, workers, 16).ok()
 }
 

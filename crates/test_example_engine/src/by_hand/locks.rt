@@ -53,7 +53,7 @@ fn answer<R: Threads + Wait + Sync>(
 
 #[test]
 fn a_forgotten_lock_is_found(rt: HostRuntime) {
-    let found = answer(&rt, rt.alloc(), Need::of(0, 0), Duration::from_secs(20));
+    let found = answer(&rt, rt.alloc(), Need::none(), Duration::from_secs(20));
     let is_named = match &found {
         Some(LockAnswer::No(1, 2, name)) => name.as_str() == "db",
         _ => false,

@@ -34,7 +34,7 @@ impl Units for EachKind {
 fn engine(alloc: Global) -> Option<UnitEngine<EachKind>> {
     let mut table = UnitTable::new(alloc, ("engine", "e"), "e").ok()?;
     let _tests = table.add(alloc, 0, ("t", "1"), "tests", DType::Both).ok()?;
-    table.add_unit(Need::of(0, 0)).ok()?;
+    table.add_unit(Need::none()).ok()?;
     let units = EachKind {
         runs: Mutex::new(0),
     };
