@@ -11,6 +11,7 @@ pub use Rattle.tk_plan.specs.Planned.{IsNeedOf, IsPlanned, IsWithin, need_word}
 pub use Rattle.tk_plan.specs.Script.{moves_below}
 pub use Rattle.tk_plan.specs.StepEvents.{payload_of}
 pub use Rattle.tk_plan.specs.Trees.{IsForest, contents, forest}
+pub use Rattle.tk_plan_code.specs.Bodies.{bodies_of, body_at}
 pub use Rattle.tk_plan_code.specs.NodeJson.{plan_data}
 pub use Rattle.tk_plan_code.specs.NodeViews.{node_view, plain}
 pub use Rattle.tk_plan_reading.specs.PlanAnswers.{Answered}

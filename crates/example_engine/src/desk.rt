@@ -2,8 +2,8 @@
 use self::Command::{Abort, Fail, File, Report, Rows};
 use self::Planned::{Isolated, Reads, Skipped, Writes};
 use engine_testkit::{
-    Body, Context, ExecutionMode, Hierarchical, LockMode, Outcome, PlanFault, PlanNode, Reporter,
-    Tests, UnitFault, build_plan,
+    Bodies, Body, Context, ExecutionMode, Hierarchical, LockMode, Outcome, PlanFault, PlanNode,
+    Reporter, Tests, UnitFault, build_plan,
 };
 use std::alloc::{AllocError, Global};
 
@@ -40,16 +40,6 @@ const TESTS: [Test; 6] = [
     ("printer", "cleaning", Isolated, Report("pages", "0")),
 ];
 
-// Finds what the test of this name does.
-fn command_of(name: &str) -> Option<Command> {
-    for (_, test, _, command) in TESTS {
-        if test == name {
-            return Some(command);
-        }
-    }
-    None
-}
-
 // The body of a container: a test for each of two rows.
 #[derive(Drop)]
 struct Sheet(&'static str, &'static str);
@@ -65,12 +55,16 @@ impl Body for Sheet {
 
 /// The tests `[engine:desk]/[group:ledger]/[test:total]` and so on.
 #[derive(Drop)]
-pub struct DeskTests;
+pub struct DeskTests {
+    // The number of a test's body is its place in `TESTS`.
+    bodies: Bodies,
+}
 
 impl Tests for DeskTests {
     fn run<C: Context>(&self, key: u32, test: &mut Reporter<C>) -> Result<Outcome, UnitFault> {
-        let name = test.descriptor()?.name.as_str();
-        match command_of(name).ok_or(UnitFault::Own(key))? {
+        let number = self.bodies.at(key).ok_or(UnitFault::Own(key))?;
+        let planned = TESTS.get(number as usize).ok_or(UnitFault::Own(key))?;
+        match planned.3 {
             Abort(reason) => return Ok(Outcome::aborted(test.alloc(), reason)?),
             Fail(message) => return Ok(Outcome::failed(test.alloc(), message)?),
             File(path) => test.file(path)?,
@@ -99,21 +93,23 @@ fn test_node(alloc: Global, test: Test) -> Result<PlanNode<'static>, AllocError>
 
 // A group with its tests.
 fn group_node(alloc: Global, group: &'static str) -> Result<PlanNode<'static>, AllocError> {
-    let mut node = PlanNode::container(alloc, ("group", group), group);
-    for test in TESTS {
+    let mut tests = Vec::new(alloc);
+    for (number, test) in TESTS.iter().enumerate() {
         if test.0 == group {
-            node = node.child(test_node(alloc, test)?)?;
+            tests.push(test_node(alloc, *test)?.body(number as u32))?;
         }
     }
-    Ok(node.mode(ExecutionMode::Concurrent))
+    let node = PlanNode::container(alloc, ("group", group), group);
+    node.mode(ExecutionMode::Concurrent).children(tests)
 }
 
 /// Makes the engine.
 pub fn desk_engine(alloc: Global) -> Result<Hierarchical<DeskTests>, PlanFault> {
-    let mut root = PlanNode::container(alloc, ("engine", "desk"), "desk");
+    let mut groups = Vec::new(alloc);
     for group in GROUPS {
-        root = root.child(group_node(alloc, group)?)?;
+        groups.push(group_node(alloc, group)?)?;
     }
-    let plan = build_plan(alloc, &root)?;
-    Ok(Hierarchical::new(alloc, plan, DeskTests)?)
+    let root = PlanNode::container(alloc, ("engine", "desk"), "desk").children(groups)?;
+    let (plan, bodies) = (build_plan(alloc, &root)?, root.bodies(alloc)?);
+    Ok(Hierarchical::new(alloc, plan, DeskTests { bodies })?)
 }

@@ -171,3 +171,39 @@ fn keys_of_ids(rt: HostRuntime) {
     }
     drop(built);
 }
+
+// A plan whose nodes have numbers of bodies that are not in their order.
+fn with_bodies(alloc: Global) -> Result<PlanNode<'static>, AllocError> {
+    let mut tests = Vec::new(alloc);
+    for (value, number) in [("1", 8), ("2", 3)] {
+        tests.push(PlanNode::test(alloc, ("t", value), value).body(number))?;
+    }
+    let registered = PlanNode::test(alloc, ("dyn", "1"), "one").body(9);
+    let a = class(alloc, "A").children(tests)?.dynamic(registered)?;
+    let b = PlanNode::container_and_test(alloc, ("class", "B"), "B").body(0);
+    PlanNode::container(alloc, ("engine", "e"), "e")
+        .child(a)?
+        .child(b)
+}
+
+// The number of the body of the node with this id.
+fn body_of(alloc: Global, id: &str) -> Result<Option<u32>, PlanFault> {
+    let root = with_bodies(alloc)?;
+    let bodies = root.bodies(alloc)?;
+    let plan = build_plan(alloc, &root)?;
+    match key_of(alloc, &plan, id) {
+        Some(key) => Ok(bodies.at(key)),
+        None => Ok(None),
+    }
+}
+
+#[test]
+fn bodies_of_nodes(rt: HostRuntime) -> Result<(), PlanFault> {
+    let alloc = rt.alloc();
+    assert!(rt; body_of(alloc, "[engine:e]/[class:A]")?.is_none());
+    assert!(rt; body_of(alloc, "[engine:e]/[class:A]/[t:1]")? == Some(8));
+    assert!(rt; body_of(alloc, "[engine:e]/[class:A]/[t:2]")? == Some(3));
+    assert!(rt; body_of(alloc, "[engine:e]/[class:B]")? == Some(0));
+    assert!(rt; with_bodies(alloc)?.bodies(alloc)?.at(5).is_none());
+    Ok(())
+}
