@@ -1,14 +1,17 @@
 """How a case is written.
 
-    answer("two tests/all", "ask count all", TWO_TESTS, "5\\n")                 status 0
-    no("one start/two starts", "ask match in-order started started", ONE_START, "no 1\\n")     status 1
-    fault("cut record", "ask stats", TWO_TESTS[:-3], "line 9 is bad")           status 2
+    answer("two tests/all", "ask count all", TWO_TESTS, "5")                                   status 0
+    no("one start/two starts", "ask match in-order started started", ONE_START, "no 1")        status 1
+    fault("cut record", "ask stats", TWO_TESTS[:-3], "line 9 is bad")                          status 2
 
 The words are a text with blanks between the words, or a list of words (texts or bytes). Input and output are
-texts or bytes, or a function that makes bytes when the case runs.
+texts or bytes, or a function that makes bytes when the case runs. A text that is an output ends with a line feed, also where none is written.
+
+Most cases are rows of a file `NAME.rows` beside the module `NAME`: see `rows`.
 """
 
-from typing import List, Sequence, Union
+import re
+from typing import Dict, List, Sequence, Union
 
 import form
 from harness import Bytes, Case
@@ -26,23 +29,40 @@ def as_bytes(data: Text) -> Bytes:
 
 
 def as_words(words: Union[str, Sequence[Word]]) -> List[bytes]:
-    listed = words.split(" ") if isinstance(words, str) else words
+    """The words of a command line; `""` in a text is an empty word."""
+    listed = [word if word != '""' else "" for word in words.split(" ")] if isinstance(words, str) else words
     return [word.encode() if isinstance(word, str) else word for word in listed]
+
+
+def as_input(data: Text) -> Bytes:
+    """An input; a text of lines of a record apart by ` ; ` is that record."""
+    is_record = isinstance(data, str) and re.match(r"[NLE]\|", data) and "\n" not in data
+    return as_bytes(record(*data.split(" ; ")) if is_record else data)
+
+
+def as_output(text: Text) -> Bytes:
+    """An output, which ends with a line feed; its first line `stats started=1` stands for the statistics with this number."""
+    if not isinstance(text, str):
+        return text
+    first, _, rest = text.partition("\n")
+    if re.fullmatch(r"stats( \w+=\d+)*", first):
+        return (stats(**{name: int(number) for name, _, number in (it.partition("=") for it in first.split()[1:])}) + as_output(rest).decode()).encode()
+    return (text + "\n" * (text != "" and not text.endswith("\n"))).encode()
 
 
 def answer(name: str, words: Union[str, Sequence[Word]], data: Text, output: Text) -> Case:
     """The program answers: done, or yes."""
-    return Case(name, as_words(words), as_bytes(data), as_bytes(output))
+    return Case(name, as_words(words), as_input(data), as_output(output))
 
 
 def no(name: str, words: Union[str, Sequence[Word]], data: Text, output: Text) -> Case:
     """A match says no, or an expectation fails."""
-    return Case(name, as_words(words), as_bytes(data), as_bytes(output), status=1)
+    return Case(name, as_words(words), as_input(data), as_output(output), status=1)
 
 
 def fault(name: str, words: Union[str, Sequence[Word]], data: Text, line: str, status: int = 2) -> Case:
     """The program refuses its words or its input with this line after its name, and writes nothing else."""
-    return Case(name, as_words(words), as_bytes(data), error=f"testkit: {line}\n".encode(), status=status)
+    return Case(name, as_words(words), as_input(data), error=f"testkit: {line}\n".encode(), status=status)
 
 
 def faults(title: str, question: str, first: int, rows: Sequence[tuple], usual: str) -> List[Case]:
@@ -71,3 +91,37 @@ def record(*lines: str) -> str:
 def replay(*lines: str) -> str:
     """A replay text of these lines after the header."""
     return REPLAY_HEADER + "".join(line + "\n" for line in lines)
+
+
+NAME = re.compile(r"(?<!\S)[A-Z][A-Z0-9_]{2,}(?!\S)")
+
+
+def rows(path: str, names: Dict[str, object]) -> List[Case]:
+    """The cases of the file `NAME.rows` beside the module `NAME.py` of this path, which has these names.
+
+    A line `[maker] title` begins a section. Each line below it is a row, a call of the module's function `maker`; its fields stand apart by
+    ` | `, and the first one after the title. A line `> text` is a further line of the last field. A word in capitals that is a name of the
+    module is what the module calls so, `""` is an empty field, and a line that begins with `# ` is a comment.
+    """
+    cases, make, title = [], None, ""
+    with open(path[: -len(".py")] + ".rows", encoding="utf-8", newline="\n") as file:
+        lines = re.sub("(?m)^# .*\n", "", file.read()).replace("\n> ", "\0").split("\n")
+    for line in filter(None, lines):
+        section = re.fullmatch(r"\[(\w+)\] ?(.*)", line)
+        if section:
+            make, title = names[section[1]], section[2] + " " * (section[2][-1:] not in ("", "/"))
+            continue
+        row, *more = line.split("\0")
+        fields = [value_of(field, names) for field in row.split(" | ")]
+        if more:
+            fields[-1] = "\n".join([fields[-1].rstrip("\n"), *more])
+        made = make(title + fields[0] if title else fields[0], *fields[1:])
+        cases += made if isinstance(made, list) else [made]
+    return cases
+
+
+def value_of(field: str, names: Dict[str, object]) -> object:
+    """What a field of a row stands for."""
+    if NAME.fullmatch(field):
+        return names[field]
+    return "" if field == '""' else NAME.sub(lambda word: str(names.get(word[0], word[0])), field)

@@ -1,131 +1,59 @@
 """Replays: what is taken, and the faults of replay texts."""
 
 import form
-from tables.building import REPLAY_HEADER, answer, fault, record, replay
+from tables.building import REPLAY_HEADER, answer, fault, record, replay, rows
 from tables.texts import SMALL_REPLAY, SMALL_SCRIPT
 
 NODE = "N|T|[engine:e]|e"
 START = "E|1|0|10|start"
 FINISH = "E|1|0|11|finish|ok"
 REPORT = "E|2|0|20|report|k|v"
-
-
-def small(name: str, steps: str, *taken: str):
-    """The small script with these steps."""
-    return answer(f"replay/{name}", "replay", replay(*SMALL_SCRIPT, steps), record(NODE, *taken))
-
-
-def refused(name: str, lines, line: str):
-    return fault(f"replay/{name}", "replay", replay(*lines), line)
-
-
-SMALL = [
-    answer("replay/small replay", "replay", SMALL_REPLAY, record(NODE, START, REPORT, FINISH)),
-    answer(
-        "replay/small replay of version 1",
-        "replay",
-        "testkit-replay|1\n" + SMALL_REPLAY[len(REPLAY_HEADER) :],
-        record(NODE, START, REPORT, FINISH),
-    ),
-    small("no step", "S"),
-    small("takes alone", "S|t|t|t"),
-    small("one step", "S|1"),
-    small("one step that is taken", "S|1|t", START),
-    small("left waiting", "S|t|1|1|1"),
-    small("all of one worker", "S|1|1|1|t|t|t", START, FINISH),
-    small("in turn", "S|1|t|1|t|1|t|t", START, FINISH),
-    small("the other worker first", "S|2|1|t|t|1|t", REPORT, START, FINISH),
-    small("end mark of the other worker first", "S|2|2|1|t|t|t", REPORT, START),
-    small("a take too early", "S|t|2|t|t", REPORT),
-    small("all", "S|1|1|1|2|2|t|t|t|t|t|t", START, FINISH, REPORT),
-    refused("after the end", [*SMALL_SCRIPT, "S|2|2|2"], "step 2 comes after the end mark"),
-    refused("after the end, much later", [*SMALL_SCRIPT, "S|2|t|2|t|1|t|2"], "step 6 comes after the end mark"),
-    refused("after the end, the first of two", [*SMALL_SCRIPT, "S|2|2|1|1|1|1|2"], "step 5 comes after the end mark"),
-]
-
-STEPS = [
-    refused(f"steps {steps!r}", [*SMALL_SCRIPT, steps], "line 7 is bad")
-    for steps in "S|3 S|0 S|01 S|+1 S|-1 S| S||1 S|1| S|1||t S|T S|tt S|1t S|t1 S1 s|1 SS|1 S|1,2 S|9 S|256 S|257 S|x S|١".split()
-    + ["S|18446744073709551617", "S| 1", "S|1 ", "S 1", "S|1\r"]
-]
-
-FORMS = [
-    answer(f"replay/header of version {version}", "replay", f"testkit-replay|{version}\nW|1\nS\n", record())
-    for version in form.VERSIONS
-] + [
-    fault(f"replay/header, {name}", "replay", text, "no header")
-    for name, text in [
-        ("empty input", ""),
-        ("record", record()),
-        ("a later version", f"testkit-replay|{form.LATEST + 1}\nW|1\nS\n"),
-        ("version 0", "testkit-replay|0\nW|1\nS\n"),
-        ("no line feed", REPLAY_HEADER[:-1]),
-        ("carriage return", REPLAY_HEADER[:-1] + "\r\nW|1\nS\n"),
-        ("blank", " " + SMALL_REPLAY),
-    ]
-] + [
-    refused("header alone", [], "line 2 is bad"),
-    refused("workers alone", ["W|2"], "line 3 is bad"),
-    refused("steps without workers", ["S"], "line 2 is bad"),
-    refused("node without workers", [NODE, "S"], "line 2 is bad"),
-    refused("workers twice", ["W|1", "W|1", "S"], "line 3 is bad"),
-    refused("step of a worker too many", ["W|2", "S|3"], "line 3 is bad"),
-    refused("steps twice", ["W|2", "S|t", "S"], "line 4 is bad"),
-    refused("node after the steps", ["W|2", "S|t", NODE], "line 4 is bad"),
-    refused("empty line after the steps", ["W|2", "S|t", ""], "line 4 is bad"),
-    refused("nothing after the node", ["W|1", NODE], "line 4 is bad"),
-    refused("nothing after the entries", SMALL_SCRIPT, "line 7 is bad"),
-    refused("node after an entry", ["W|1", NODE, START, "N|T|[engine:f]|f", "S"], "line 5 is bad"),
-    refused("node twice", ["W|1", NODE, NODE, "S"], "line 4 is bad"),
-    refused("node without its parent", ["W|1", "N|T|[engine:e]/[t:1]|one", "S"], "line 3 is bad"),
-    refused("header twice", ["testkit-replay|1", "W|1", "S"], "line 2 is bad"),
-    refused("entry of worker 0", ["W|2", NODE, "E|0|0|0|start", "S"], "line 4 is bad"),
-    refused("entry of a worker too many", ["W|2", NODE, "E|3|0|0|start", "S"], "line 4 is bad"),
-    refused("bad entry", ["W|2", NODE, "E|1|0|00|start", "S"], "line 4 is bad"),
-    refused("bad tail", ["W|2", NODE, "E|1|0|0|finish", "S"], "line 4 is bad"),
-    refused("first of two bad lines", ["W|2", "N|T|[engine]|e", "E|1|0|0", "S"], "line 3 is bad"),
-    refused("a lock", ["W|1", NODE, "L|0|W|db", "S"], "line 4 is bad"),
-    refused("bad line before a faulty step", ["W|1", NODE, "S|1|1", "x"], "line 5 is bad"),
-    fault("replay/no line feed after the steps", "replay", SMALL_REPLAY[:-1], "line 7 is bad"),
-    fault("replay/no line feed after the workers", "replay", REPLAY_HEADER + "W|2", "line 2 is bad"),
-    fault("replay/blank after the end", "replay", SMALL_REPLAY + " ", "line 8 is bad"),
-    fault("replay/line feed after the end", "replay", SMALL_REPLAY + "\n", "line 8 is bad"),
-    fault("replay/no text", "replay", replay("W|1").encode() + b"N|T|[engine:\xff]|e\nS\n", "line 3 is bad"),
-    fault("replay/no text among the steps", "replay", replay("W|1").encode() + b"S|\xff\n", "line 3 is bad"),
-]
-
-WORKERS = [
-    answer(f"replay/W|{workers}", "replay", replay(f"W|{workers}", f"S|{workers}|t"), record())
-    for workers in range(1, form.MAX_WORKERS + 1)
-] + [
-    refused(f"workers {line!r}", [line, "S"], "line 2 is bad")
-    for line in f"W|0 W|{form.MAX_WORKERS + 1} W|255 W|256 W|257 W|01 W| W W|1| W|1|2 W|a W|+1 w|1".split() + ["W| 1", "W|1 ", "W|1\r"]
-]
-
+SCRIPT = " ; ".join(SMALL_SCRIPT)
 UNKNOWN, UNLAWFUL = "E|1|5|0|start", "E|1|0|0|report|b|1|a|2"
 FIRST, START_OF_IT = "E|1|65536|0|dynamic|T|[engine:e]/[d:1]|one", "E|2|65536|1|start"
 SECOND, OTHER = "E|1|65537|0|dynamic|T|[engine:e]/[d:2]|two", "E|1|131072|0|dynamic|T|[engine:e]/[d:1]|one"
 
 
-def taken(name: str, lines, *entries: str):
+def lines_of(text) -> list:
+    """The lines that stand apart by ` ; `."""
+    return [it for it in text.split(" ; ") if it] if isinstance(text, str) else text
+
+
+def small(name: str, steps: str, entries: str = ""):
+    """The small script with these steps."""
+    return taken(name, [*SMALL_SCRIPT, steps], entries)
+
+
+def refused(name: str, lines, line: str):
+    return fault(name, "replay", replay(*lines_of(lines)), line)
+
+
+def taken(name: str, lines, entries=""):
     """The replay of these lines takes these entries, below the lines of nodes."""
-    nodes = [line for line in lines if line.startswith("N|")]
-    return answer(f"replay/{name}", "replay", replay(*lines), record(*nodes, *entries))
+    nodes = [line for line in lines_of(lines) if line.startswith("N|")]
+    return answer(name, "replay", replay(*lines_of(lines)), record(*nodes, *lines_of(entries)))
 
 
-KEYS = [
-    refused("unknown key", ["W|1", UNKNOWN, "S|1|t"], "step 1 has an unknown key"),
-    taken("unknown key that isn't taken", ["W|1", UNKNOWN, "S|1|1"]),
-    taken("unknown key that isn't emitted", ["W|1", UNKNOWN, "S|t|t"]),
-    refused("unlawful", ["W|1", NODE, UNLAWFUL, "S|t|1|t"], "step 2 is unlawful"),
-    taken("unlawful that isn't taken", ["W|1", NODE, UNLAWFUL, "S|t|1"]),
-    refused("unknown key before unlawful", ["W|1", UNLAWFUL, "S|1|t"], "step 1 has an unknown key"),
-    refused("first of two faulty steps, the take", ["W|1", UNKNOWN, "S|1|t|1|1"], "step 1 has an unknown key"),
-    refused("first of two faulty steps, the end", ["W|1", UNKNOWN, "S|1|1|1|t"], "step 2 comes after the end mark"),
-    taken("registration", ["W|2", NODE, FIRST, START_OF_IT, "S|1|2|t|t"], FIRST, START_OF_IT),
-    refused("registration that is taken too late", ["W|2", NODE, FIRST, START_OF_IT, "S|2|1|t|t"], "step 2 has an unknown key"),
-    refused("registration of another worker's key", ["W|2", NODE, OTHER, "S|1|t"], "step 1 has an unknown key"),
-    refused("registrations in the wrong order", ["W|1", NODE, SECOND, FIRST, "S|1|1|t|t"], "step 2 has an unknown key"),
+STEPS = "S|3 S|0 S|01 S|+1 S|-1 S| S||1 S|1| S|1||t S|T S|tt S|1t S|t1 S1 s|1 SS|1 S|1,2 S|9 S|256 S|257 S|x S|١".split()
+STEPS += ["S|18446744073709551617", "S| 1", "S|1 ", "S 1", "S|1\r"]
+
+WORKERS = [*f"W|0 W|{form.MAX_WORKERS + 1} W|255 W|256 W|257 W|01 W| W W|1| W|1|2 W|a W|+1 w|1".split(), "W| 1", "W|1 ", "W|1\r"]
+
+FAULTS = [
+    ("header, empty input", "", "no header"),
+    ("header, record", record(), "no header"),
+    ("header, a later version", f"testkit-replay|{form.LATEST + 1}\nW|1\nS\n", "no header"),
+    ("header, version 0", "testkit-replay|0\nW|1\nS\n", "no header"),
+    ("header, no line feed", REPLAY_HEADER[:-1], "no header"),
+    ("header, carriage return", REPLAY_HEADER[:-1] + "\r\nW|1\nS\n", "no header"),
+    ("header, blank", " " + SMALL_REPLAY, "no header"),
+    ("no line feed after the steps", SMALL_REPLAY[:-1], "line 7 is bad"),
+    ("no line feed after the workers", REPLAY_HEADER + "W|2", "line 2 is bad"),
+    ("blank after the end", SMALL_REPLAY + " ", "line 8 is bad"),
+    ("line feed after the end", SMALL_REPLAY + "\n", "line 8 is bad"),
+    ("no text", replay("W|1").encode() + b"N|T|[engine:\xff]|e\nS\n", "line 3 is bad"),
+    ("no text among the steps", replay("W|1").encode() + b"S|\xff\n", "line 3 is bad"),
+    ("file in version 1", f"testkit-replay|1\nW|1\n{NODE}\nE|1|0|0|file|a\nS\n", "line 4 is bad"),
 ]
 
 EVERY_TAIL = [
@@ -157,24 +85,24 @@ ALL_WORKERS = range(1, form.MAX_WORKERS + 1)
 OF_ALL_WORKERS = [f"E|{worker}|0|{worker}|start" for worker in ALL_WORKERS]
 IN_TURN = "S" + "".join(f"|{worker}" for worker in reversed(ALL_WORKERS)) + "|t" * form.MAX_WORKERS
 
-LONGER = [
-    taken("every tail", ["W|1", *NODES, *EVERY_TAIL, "S" + "|1|t" * len(EVERY_TAIL)], *EVERY_TAIL),
-    answer(
-        "replay/every tail of version 1",
-        "replay",
-        "\n".join(["testkit-replay|1", "W|1", *NODES, *EVERY_TAIL[:-1], "S" + "|1|t" * len(EVERY_TAIL), ""]),
-        record(*NODES, *EVERY_TAIL[:-1]),
-    ),
-    taken("every tail after the last was emitted", ["W|1", *NODES, *EVERY_TAIL, "S" + "|1" * (len(EVERY_TAIL) + 1) + "|t" * 100], *EVERY_TAIL),
-    taken("nodes alone", [f"W|{form.MAX_WORKERS}", *NODES, "S"]),
-    taken("a hundred steps", ["W|1", NODE, *STARTS, "S" + "|1|t" * 50], *STARTS),
-    refused("a hundred steps and one too many", ["W|1", NODE, *STARTS, "S" + "|1|t" * 50 + "|1|1"], "step 101 comes after the end mark"),
-    taken("all workers in turn", [f"W|{form.MAX_WORKERS}", NODE, *OF_ALL_WORKERS, IN_TURN], *reversed(OF_ALL_WORKERS)),
-]
+SMALL_RECORD = record(NODE, START, REPORT, FINISH)
+OF_VERSION_1 = "\n".join(["testkit-replay|1", "W|1", *NODES, *EVERY_TAIL[:-1], "S" + "|1|t" * len(EVERY_TAIL), ""])
+AFTER_ALL = "S" + "|1" * (len(EVERY_TAIL) + 1) + "|t" * 100
 
-FILES = [
-    fault("replay/file in version 1", "replay", "testkit-replay|1\nW|1\n" + NODE + "\nE|1|0|0|file|a\nS\n", "line 4 is bad"),
-    refused("file without a path", ["W|1", NODE, "E|1|0|0|file|", "S|1|t"], "step 1 is unlawful"),
+CASES = rows(__file__, globals()) + [
+    answer("replay/small replay", "replay", SMALL_REPLAY, SMALL_RECORD),
+    answer("replay/small replay of version 1", "replay", "testkit-replay|1\n" + SMALL_REPLAY[len(REPLAY_HEADER) :], SMALL_RECORD),
+    *[refused(f"replay/steps {steps!r}", [*SMALL_SCRIPT, steps], "line 7 is bad") for steps in STEPS],
+    *[answer(f"replay/header of version {it}", "replay", f"testkit-replay|{it}\nW|1\nS\n", record()) for it in form.VERSIONS],
+    *[fault(f"replay/{name}", "replay", text, line) for name, text, line in FAULTS],
+    *[taken(f"replay/W|{workers}", [f"W|{workers}", f"S|{workers}|t"]) for workers in ALL_WORKERS],
+    *[refused(f"replay/workers {line!r}", [line, "S"], "line 2 is bad") for line in WORKERS],
+    refused("replay/empty line after the steps", ["W|2", "S|t", ""], "line 4 is bad"),
+    taken("replay/every tail", ["W|1", *NODES, *EVERY_TAIL, "S" + "|1|t" * len(EVERY_TAIL)], EVERY_TAIL),
+    answer("replay/every tail of version 1", "replay", OF_VERSION_1, record(*NODES, *EVERY_TAIL[:-1])),
+    taken("replay/every tail after the last was emitted", ["W|1", *NODES, *EVERY_TAIL, AFTER_ALL], EVERY_TAIL),
+    taken("replay/nodes alone", [f"W|{form.MAX_WORKERS}", *NODES, "S"]),
+    taken("replay/a hundred steps", ["W|1", NODE, *STARTS, "S" + "|1|t" * 50], STARTS),
+    refused("replay/a hundred steps and one too many", ["W|1", NODE, *STARTS, "S" + "|1|t" * 50 + "|1|1"], "step 101 comes after the end mark"),
+    taken("replay/all workers in turn", [f"W|{form.MAX_WORKERS}", NODE, *OF_ALL_WORKERS, IN_TURN], OF_ALL_WORKERS[::-1]),
 ]
-
-CASES = SMALL + STEPS + FORMS + WORKERS + KEYS + LONGER + FILES

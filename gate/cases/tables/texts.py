@@ -25,6 +25,12 @@ SMALL_SCRIPT = ("W|2", "N|T|[engine:e]|e", "E|1|0|10|start", "E|1|0|11|finish|ok
 
 SMALL_REPLAY = replay(*SMALL_SCRIPT, "S|1|2|1|t|1|2|t|t|t|t")
 
+CUT = TWO_TESTS[:-3]
+"""A record whose last line, line 9, is cut."""
+
+DEEP = "not(" * 33
+"""More open brackets than a condition may have."""
+
 ONE_TEST_PLAN = '{"version":1,"root":{"type":"test","segment":["engine","e"],"name":"e"}}'
 
 DEMO_PLAN = """{"version":1,"root":{"type":"container","segment":["engine","demo"],"name":"demo","children":[
