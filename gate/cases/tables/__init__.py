@@ -1,6 +1,6 @@
-"""The cases that were written by hand, a module a subject, each with a list `CASES`.
+"""The cases that were written by hand, a module a subject, each with a list `CASES`; most of them are rows of a file `NAME.rows` beside the module.
 
-What has to come was worked out from the documents. `building`, `explanation_rows`, `plan_texts` and `texts` have no cases: the others share them.
+What has to come was worked out from the documents. `building`, `plan_texts` and `texts` have no cases: the others share them.
 """
 
 import importlib

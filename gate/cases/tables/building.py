@@ -11,7 +11,7 @@ Most cases are rows of a file `NAME.rows` beside the module `NAME`: see `rows`.
 """
 
 import re
-from typing import Dict, List, Sequence, Union
+from typing import Callable, Dict, List, Sequence, Tuple, Union
 
 import form
 from harness import Bytes, Case
@@ -29,8 +29,8 @@ def as_bytes(data: Text) -> Bytes:
 
 
 def as_words(words: Union[str, Sequence[Word]]) -> List[bytes]:
-    """The words of a command line; `""` in a text is an empty word."""
-    listed = [word if word != '""' else "" for word in words.split(" ")] if isinstance(words, str) else words
+    """The words of a command line; in a text `""` is an empty word, and `␣` is a blank within a word."""
+    listed = [word.replace("␣", " ") if word != '""' else "" for word in words.split(" ")] if isinstance(words, str) else words
     return [word.encode() if isinstance(word, str) else word for word in listed]
 
 
@@ -65,16 +65,20 @@ def fault(name: str, words: Union[str, Sequence[Word]], data: Text, line: str, s
     return Case(name, as_words(words), as_input(data), error=f"testkit: {line}\n".encode(), status=status)
 
 
-def faults(title: str, question: str, first: int, rows: Sequence[tuple], usual: str) -> List[Case]:
-    """What a question refuses, whose first word has the number `first`.
+def refusals(*ways: Tuple[str, str, int, Text]) -> Callable[..., List[Case]]:
+    """A maker of rows of what questions refuse; each has a title, its words, the number of the first word after it, and a usual record.
 
-    Each row has a name, what stands after the question, the line with `{0}`, `{1}`, .. for the numbers of its words, and the record, where
-    that is not the usual one.
+    A row has a name, its words with `..` for the question, the line with `{0}`, `{1}`, .. for the numbers of the words after it, and the
+    record, where that is not the usual one.
     """
-    return [
-        fault(title + name, f"ask {question}{more}", text[0] if text else usual, line.format(*range(first, first + 4)))
-        for name, more, line, *text in rows
-    ]
+
+    def make(name: str, words: str, line: str, *text: Text) -> List[Case]:
+        return [
+            fault(title + name, words.replace("..", f"ask {question}"), *text or [usual], line.format(*range(first, first + 4)))
+            for title, question, first, usual in ways
+        ]
+
+    return make
 
 
 def stats(**numbers: int) -> str:
@@ -101,7 +105,7 @@ def rows(path: str, names: Dict[str, object]) -> List[Case]:
 
     A line `[maker] title` begins a section. Each line below it is a row, a call of the module's function `maker`; its fields stand apart by
     ` | `, and the first one after the title. A line `> text` is a further line of the last field. A word in capitals that is a name of the
-    module is what the module calls so, `""` is an empty field, and a line that begins with `# ` is a comment.
+    module is what the module calls so, `""` is an empty field, `␊` a line feed in one, and a line that begins with `# ` is a comment.
     """
     cases, make, title = [], None, ""
     with open(path[: -len(".py")] + ".rows", encoding="utf-8", newline="\n") as file:
@@ -124,4 +128,4 @@ def value_of(field: str, names: Dict[str, object]) -> object:
     """What a field of a row stands for."""
     if NAME.fullmatch(field):
         return names[field]
-    return "" if field == '""' else NAME.sub(lambda word: str(names.get(word[0], word[0])), field)
+    return "" if field == '""' else NAME.sub(lambda word: str(names.get(word[0], word[0])), field.replace("␊", "\n"))

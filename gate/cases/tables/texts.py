@@ -25,6 +25,9 @@ SMALL_SCRIPT = ("W|2", "N|T|[engine:e]|e", "E|1|0|10|start", "E|1|0|11|finish|ok
 
 SMALL_REPLAY = replay(*SMALL_SCRIPT, "S|1|2|1|t|1|2|t|t|t|t")
 
+TWO_TESTS_1 = "testkit-record|1\n" + TWO_TESTS.partition("\n")[2]
+"""The same of version 1."""
+
 CUT = TWO_TESTS[:-3]
 """A record whose last line, line 9, is cut."""
 
