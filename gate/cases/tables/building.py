@@ -10,6 +10,7 @@ texts or bytes, or a function that makes bytes when the case runs. A text that i
 Most cases are rows of a file `NAME.rows` beside the module `NAME`: see `rows`.
 """
 
+import os
 import re
 from typing import Callable, Dict, List, Sequence, Tuple, Union
 
@@ -95,6 +96,12 @@ def record(*lines: str) -> str:
 def replay(*lines: str) -> str:
     """A replay text of these lines after the header."""
     return REPLAY_HEADER + "".join(line + "\n" for line in lines)
+
+
+def lines_of(name: str) -> List[str]:
+    """The lines of a text of the file `texts.lines`: those below its name in brackets, up to an empty line."""
+    with open(os.path.join(os.path.dirname(__file__), "texts.lines"), encoding="utf-8", newline="\n") as file:
+        return file.read().partition(f"[{name}]\n")[2].partition("\n\n")[0].rstrip("\n").split("\n")
 
 
 NAME = re.compile(r"(?<!\S)[A-Z][A-Z0-9_]{2,}(?!\S)")

@@ -1,141 +1,54 @@
-"""Standard streams of each kind, those that fail among them, and runs with little memory."""
+"""Standard streams of each kind, those that fail and those that stay open among them, and runs with little memory."""
 
-from typing import Callable
+from typing import Callable, List
 
 import form
 from harness import Case, Input, Output
-from tables.building import as_bytes, as_words, record, stats
-from tables.texts import DEMO_NODES, DEMO_PLAN, EMPTY, ONE_START, ONE_TEST_PLAN, SMALL_REPLAY, TWO_TESTS
+from tables.building import as_bytes, as_words, record, rows, stats
+from tables.texts import DEEP, DEMO_NODES, DEMO_PLAN, EMPTY, ONE_START, ONE_TEST_PLAN, SMALL_REPLAY, TWO_TESTS
 
 DEVICE_FAILED = b"testkit: device failed\n"
+CUT_START, CUT_REPLAY = ONE_START[:-1], SMALL_REPLAY[:-1]
 
 FAILING_INPUTS = [Input.CLOSED, Input.FOLDER]
 FAILING_OUTPUTS = [Output.FULL, Output.CLOSED, Output.BROKEN_PIPE]
 
-READING = [
-    "ask stats",
-    "ask count all",
-    "ask match exactly",
-    "ask match in-order test",
-    "ask list all",
-    "ask exclusive test",
-    "ask executions",
-    "ask lifecycle",
-    "ask report",
-    "ask explain exactly",
-    "ask explain in-order test",
-    "ask explain loosely test",
-    "ask explain list all",
-    "ask explain exclusive test",
-    "ask explain executions",
-    "ask explain lifecycle",
-    "ask locks",
-    "ask explain locks",
-    "replay",
-    "run",
-    "run --workers 2",
-]
 
-WRITING = [
-    ("ask stats", TWO_TESTS),
-    ("ask stats failed=0", TWO_TESTS),
-    ("ask count all", TWO_TESTS),
-    ("ask match in-order started", TWO_TESTS),
-    ("ask match exactly started", TWO_TESTS),
-    ("ask match loosely started", TWO_TESTS),
-    ("ask list tests", TWO_TESTS),
-    ("ask exclusive test", TWO_TESTS),
-    ("ask executions", TWO_TESTS),
-    ("ask lifecycle", TWO_TESTS),
-    ("ask report", TWO_TESTS),
-    ("ask explain in-order succeeded started", TWO_TESTS),
-    ("ask explain exactly started", TWO_TESTS),
-    ("ask explain loosely failed(bang)", TWO_TESTS),
-    ("ask explain list tests", TWO_TESTS),
-    ("ask explain exclusive all()", TWO_TESTS),
-    ("ask explain executions", TWO_TESTS),
-    ("ask explain lifecycle", ONE_START),
-    ("ask locks", TWO_TESTS),
-    ("ask explain locks", TWO_TESTS),
-    ("replay", SMALL_REPLAY),
-    ("run", ONE_TEST_PLAN),
-    ("run --workers 2", DEMO_PLAN),
-]
+def refused(name: str, words: str, data: object, line: str, kind: Input, status: int = 2) -> Case:
+    return Case(name, as_words(words), data, error=f"testkit: {line}\n".encode(), status=status, standard_input=kind)
 
-INPUTS = [
-    Case(f"input/{kind.name}, {words}", as_words(words), b"", error=DEVICE_FAILED, status=3, standard_input=kind)
+
+def reading(words: str) -> List[Case]:
+    return [refused(f"input/{kind.name}, {words}", words, b"", "device failed", kind, 3) for kind in FAILING_INPUTS]
+
+
+def writing(words: str, text: str) -> List[Case]:
+    return [
+        Case(f"output/{kind.name}, {words}", as_words(words), as_bytes(text), error=DEVICE_FAILED, status=3, standard_output=kind)
+        for kind in FAILING_OUTPUTS
+    ]
+
+
+def bad_words(words: str, line: str) -> List[Case]:
+    """The fault of the words comes before that of an input, and while somebody may still write the input."""
+    texts = {"nothing written": "", "a text written": ONE_START, "half a line": ONE_TEST_PLAN[:40]}
+    return [refused(f"input/{kind.name}, {words} comes first", words, b"", line, kind) for kind in FAILING_INPUTS] + [
+        refused(f"open input/{beginning}, {words}", words, text.encode(), line, Input.OPEN) for beginning, text in texts.items()
+    ]
+
+
+def nothing_written(name: str, words: str, text: str, line: str = "") -> List[Case]:
+    error = {"error": f"testkit: {line}\n".encode(), "status": 2} if line else {}
+    return [Case(f"output/{it.name}, {name}", as_words(words), as_bytes(text), standard_output=it, **error) for it in FAILING_OUTPUTS]
+
+
+def error_fails(name: str, words: str, text: str) -> List[Case]:
+    return [Case(f"error/{it.name}, {name}", as_words(words), as_bytes(text), status=2, standard_error=it) for it in FAILING_OUTPUTS]
+
+
+BEFORE_THE_WORKERS = [
+    refused(f"input/{kind.name} comes before the number of workers", "run --workers 0", b"", "device failed", kind, 3)
     for kind in FAILING_INPUTS
-    for words in READING
-]
-
-BAD_WORDS = [
-    ("walk", "bad command line"),
-    ("replay x", "bad command line"),
-    ("run --workers 256", "bad command line"),
-    ("run --workers=x", "bad command line"),
-    ("ask", "unknown question"),
-    ("ask how", "unknown question"),
-    ("ask stats x", "bad word 0"),
-    ("ask count", "bad word 0"),
-    ("ask match most", "bad word 0"),
-    ("ask match exactly tesx", "condition 1 is bad at 3"),
-    ("ask match exactly test tesx", "condition 2 is bad at 3"),
-    ("ask match exactly " + "not(" * 33, "condition 1 is too deep"),
-    ("ask match loosely " + "not(" * 33, "condition 1 is too deep"),
-    ("ask list", "bad word 0"),
-    ("ask list all tesx", "condition 1 is bad at 3"),
-    ("ask list tests test tesx", "condition 2 is bad at 3"),
-    ("ask exclusive", "bad word 0"),
-    ("ask executions x", "bad word 0"),
-    ("ask explain", "bad word 0"),
-    ("ask explain loosely tesx", "condition 1 is bad at 3"),
-    ("ask explain list all tesx", "condition 2 is bad at 3"),
-    ("ask explain list tests test tesx", "condition 3 is bad at 3"),
-    ("ask explain lifecycle x", "bad word 1"),
-    ("ask locks x", "bad word 0"),
-    ("ask explain locks x", "bad word 1"),
-]
-"""Words that are refused before any input is read."""
-
-BEFORE_THE_INPUT = [
-    Case(name, as_words(words), b"", error=f"testkit: {line}\n".encode(), status=status, standard_input=kind)
-    for kind in FAILING_INPUTS
-    for name, words, line, status in [
-        *[(f"input/{kind.name}, {words} comes first", words, line, 2) for words, line in BAD_WORDS],
-        (f"input/{kind.name} comes before the number of workers", "run --workers 0", "device failed", 3),
-    ]
-]
-
-OUTPUTS = [
-    Case(f"output/{kind.name}, {words}", as_words(words), as_bytes(data), error=DEVICE_FAILED, status=3, standard_output=kind)
-    for kind in FAILING_OUTPUTS
-    for words, data in WRITING
-]
-
-NOTHING_TO_WRITE = [
-    Case(f"output/{kind.name}, {name}", as_words(words), as_bytes(data), error=error, status=status, standard_output=kind)
-    for kind in FAILING_OUTPUTS
-    for name, words, data, error, status in [
-        ("no execution to write", "ask executions", EMPTY, b"", 0),
-        ("no event to list", "ask list all kind(file)", TWO_TESTS, b"", 0),
-        ("no event to explain", "ask explain list all kind(file)", TWO_TESTS, b"", 0),
-        ("no execution to explain", "ask explain executions", EMPTY, b"", 0),
-        ("bad words", "ask count", EMPTY, b"testkit: bad word 0\n", 2),
-        ("bad record", "ask stats", ONE_START[:-1], b"testkit: line 3 is bad\n", 2),
-        ("bad replay", "replay", SMALL_REPLAY[:-1], b"testkit: line 7 is bad\n", 2),
-        ("bad plan", "run", "[", b"testkit: plan is not JSON\n", 2),
-    ]
-]
-
-ERRORS = [
-    Case(f"error/{kind.name}, {name}", as_words(words), as_bytes(data), status=2, standard_error=kind)
-    for kind in FAILING_OUTPUTS
-    for name, words, data in [
-        ("bad words", "ask count", EMPTY),
-        ("bad command line", "report", EMPTY),
-        ("bad record", "ask stats", ONE_START[:-1]),
-        ("bad plan", "run", "["),
-    ]
 ]
 
 DEMO_REPORT = as_bytes(stats(skipped=1, started=7, finished=7, succeeded=6, failed=1, dynamic=1) + DEMO_NODES)
@@ -176,5 +89,13 @@ NO_THREAD = [
 ]
 """A thread's stack of 8,192 KiB doesn't fit into 9,000 KiB beside a program, and a program without threads does."""
 
+TOO_LARGE = [
+    refused(f"open input/16 MiB and a byte, {words}", words, lambda text=text: text.encode().ljust(form.MAX_TEXT + 1), "input too large", Input.OPEN)
+    for words, text in [
+        *[(f"ask {it}", ONE_START) for it in ("stats", "match in-order started", "list all", "explain loosely started")],
+        *[("replay", SMALL_REPLAY), ("run", ONE_TEST_PLAN), ("run --workers 0", ONE_TEST_PLAN)],
+    ]
+]
+"""A text that is too large is refused at its first byte that is too many."""
 
-CASES = INPUTS + BEFORE_THE_INPUT + OUTPUTS + NOTHING_TO_WRITE + ERRORS + GOOD_INPUTS + LITTLE_MEMORY + NO_THREAD
+CASES = rows(__file__, globals()) + BEFORE_THE_WORKERS + GOOD_INPUTS + TOO_LARGE + LITTLE_MEMORY + NO_THREAD

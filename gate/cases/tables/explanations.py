@@ -2,23 +2,11 @@
 
 from typing import List
 
-from tables.building import answer, no, record, rows
+from tables.building import answer, lines_of, no, record, rows
 from tables.questions import EVERY_KIND, SIXTY_FIVE_STARTS, START_FINISH_START, TWO_STARTS
 from tables.texts import EMPTY, ONE_START, REGISTERED_TEST, TWO_TESTS, TWO_TESTS_1
 
-ENDS = record(
-    "N|C|[engine:e]|e",
-    "N|T|[engine:e]/[t:1]|one",
-    "N|T|[engine:e]/[t:2]|two",
-    "E|1|1|0|finish|ok",
-    "E|1|1|0|finish|fail",
-    "E|1|1|0|finish|fail|boom",
-    "E|1|2|0|finish|abort|bang!",
-    "E|1|1|0|skip|off for now",
-    "E|1|1|0|file|a/b/c",
-    "E|1|1|0|report|k|v",
-    "E|1|1|0|start",
-)
+ENDS = record(*lines_of("ENDS"))
 """Each ending, and each other kind of event of a test."""
 
 STARTED = '    {0}: E|1|0|0|start   [engine:e] "e"'

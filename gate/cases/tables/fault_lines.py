@@ -8,32 +8,12 @@ from typing import List, Tuple
 import tables
 from harness import Case, Check
 
-LINES = [
-    ("bad command line", 2),
-    ("unknown question", 2),
-    ("bad word N", 2),
-    ("condition N is bad at N", 2),
-    ("condition N is too deep", 2),
-    ("no header", 2),
-    ("line N is bad", 2),
-    ("line N has an unknown key", 2),
-    ("line N is unlawful", 2),
-    ("step N comes after the end mark", 2),
-    ("step N has an unknown key", 2),
-    ("step N is unlawful", 2),
-    ("input too large", 2),
-    ("plan is not JSON", 2),
-    ("plan member PATH is bad", 2),
-    ("plan id is bad", 2),
-    ("plan table is refused", 2),
-    ("too many resources", 2),
-    ("entry key twice", 2),
-    ("too many events", 2),
-    ("plan too deep", 2),
-    ("workers must be N to N", 2),
-    ("no thread", 3),
-    ("device failed", 3),
-    ("out of memory", 3),
+LINES = [(line, 3) for line in ("no thread", "device failed", "out of memory")] + [
+    (line, 2)
+    for line in """bad command line; unknown question; bad word N; condition N is bad at N; condition N is too deep; no header; line N is bad;
+line N has an unknown key; line N is unlawful; step N comes after the end mark; step N has an unknown key; step N is unlawful;
+input too large; plan is not JSON; plan member PATH is bad; plan id is bad; plan table is refused; too many resources; entry key twice;
+too many events; plan too deep; workers must be N to N""".replace("\n", " ").split("; ")
 ]
 """The lines of docs/FORMATS.md, with N for a number, and their statuses.
 

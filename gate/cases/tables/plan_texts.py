@@ -29,3 +29,20 @@ def wrong(plan: str, path: str):
 def wrong_root(members: str, path: str):
     """The root's member at this path is bad."""
     return fault(f"plan member/{members}", "run --workers=2", rooted(members), f"plan member {path} is bad")
+
+
+def node(kind: str, tag: str, value: str, members: str = "") -> str:
+    return f'{{"type":"{kind}","segment":["{tag}","{value}"],"name":"{value}"{members}}}'
+
+
+def root(members: str) -> str:
+    """A plan of a container with these members."""
+    return plan_of(node("container", "engine", "e", members))
+
+
+def children(*nodes: str) -> str:
+    return ',"children":[' + ",".join(nodes) + "]"
+
+
+def dynamic(*nodes: str) -> str:
+    return ',"dynamic":[' + ",".join(nodes) + "]"

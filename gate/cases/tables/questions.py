@@ -1,7 +1,7 @@
 """What `ask` answers: statistics, selections, matches and executions."""
 
 import form
-from tables.building import answer, no, record, rows, stats
+from tables.building import answer, lines_of, no, record, rows, stats
 from tables.texts import BOTH_KINDS, EMPTY, ONE_START, REGISTERED_TEST, TWO_TESTS
 
 TWO_TESTS_STATS = stats(skipped=1, started=2, finished=2, succeeded=1, failed=1)
@@ -13,22 +13,7 @@ THREE_TAILS = record("N|T|[engine:e]|e", "E|1|0|0|start", "E|1|0|1|finish|fail|b
 
 SIXTY_FIVE_STARTS = record("N|T|[engine:e]|e", *["E|1|0|0|start"] * 65)
 
-EVERY_KIND = record(
-    "N|C|[engine:e]|e",
-    "N|T|[engine:e]/[t:1]|one",
-    "E|0|0|0|start",
-    "E|1|65536|1|dynamic|B|[engine:e]/[d:1]|more",
-    "E|1|1|2|start",
-    "E|1|1|3|report",
-    "E|1|1|4|report|k|v",
-    "E|1|1|5|report|k|v|l|w",
-    "E|1|1|6|finish|abort",
-    "E|1|65536|7|skip|",
-    "E|2|1|8|finish|abort|late",
-    "E|2|1|9|finish|fail",
-    "E|2|1|10|finish|fail|",
-    "E|0|0|11|finish|ok",
-)
+EVERY_KIND = record(*lines_of("EVERY_KIND"))
 """Twelve events: each kind, and each form of a tail."""
 
 EVERY_KIND_STATS = stats(skipped=1, started=2, finished=5, aborted=2, succeeded=1, failed=2, reporting=3, dynamic=1)

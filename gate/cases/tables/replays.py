@@ -1,7 +1,7 @@
 """Replays: what is taken, and the faults of replay texts."""
 
 import form
-from tables.building import REPLAY_HEADER, answer, fault, record, replay, rows
+from tables.building import REPLAY_HEADER, answer, fault, lines_of, record, replay, rows
 from tables.texts import SMALL_REPLAY, SMALL_SCRIPT
 
 NODE = "N|T|[engine:e]|e"
@@ -14,7 +14,7 @@ FIRST, START_OF_IT = "E|1|65536|0|dynamic|T|[engine:e]/[d:1]|one", "E|2|65536|1|
 SECOND, OTHER = "E|1|65537|0|dynamic|T|[engine:e]/[d:2]|two", "E|1|131072|0|dynamic|T|[engine:e]/[d:1]|one"
 
 
-def lines_of(text) -> list:
+def lines_apart(text) -> list:
     """The lines that stand apart by ` ; `."""
     return [it for it in text.split(" ; ") if it] if isinstance(text, str) else text
 
@@ -25,13 +25,13 @@ def small(name: str, steps: str, entries: str = ""):
 
 
 def refused(name: str, lines, line: str):
-    return fault(name, "replay", replay(*lines_of(lines)), line)
+    return fault(name, "replay", replay(*lines_apart(lines)), line)
 
 
 def taken(name: str, lines, entries=""):
     """The replay of these lines takes these entries, below the lines of nodes."""
-    nodes = [line for line in lines_of(lines) if line.startswith("N|")]
-    return answer(name, "replay", replay(*lines_of(lines)), record(*nodes, *lines_of(entries)))
+    nodes = [line for line in lines_apart(lines) if line.startswith("N|")]
+    return answer(name, "replay", replay(*lines_apart(lines)), record(*nodes, *lines_apart(entries)))
 
 
 STEPS = "S|3 S|0 S|01 S|+1 S|-1 S| S||1 S|1| S|1||t S|T S|tt S|1t S|t1 S1 s|1 SS|1 S|1,2 S|9 S|256 S|257 S|x S|١".split()
@@ -56,26 +56,7 @@ FAULTS = [
     ("file in version 1", f"testkit-replay|1\nW|1\n{NODE}\nE|1|0|0|file|a\nS\n", "line 4 is bad"),
 ]
 
-EVERY_TAIL = [
-    "E|1|0|0|start",
-    "E|1|0|1|finish|ok",
-    "E|1|0|2|finish|abort",
-    "E|1|0|3|finish|abort|",
-    "E|1|0|4|finish|abort|a\\pb",
-    "E|1|0|5|finish|fail",
-    "E|1|0|6|finish|fail|",
-    "E|1|0|7|finish|fail|a\\\\b",
-    "E|1|0|8|skip|",
-    "E|1|0|9|skip|a\\nb",
-    "E|1|0|10|report",
-    "E|1|0|11|report||",
-    "E|1|0|12|report|a|1|b|2|c|",
-    "E|1|65536|13|dynamic|C|[engine:e]/[d:%25]|",
-    "E|1|65537|14|dynamic|T|[x:\\p]|a\\pb",
-    "E|1|65538|15|dynamic|B|[engine:e]|e",
-    "E|1|65538|18446744073709551615|skip|spät 🦀\0\r",
-    "E|1|0|16|file|a\\pb",
-]
+EVERY_TAIL = [line.replace("␀", "\0").replace("␍", "\r") for line in lines_of("EVERY_TAIL")]
 """Each form of a tail, with each escape of a text field."""
 
 NODES = ["N|C|[engine:e]|e", "N|B|[engine:e]/[c:%5B%5D]|\\p\\\\\\n", "N|T|[engine:e]/[c:%5B%5D]/[t:\\p]|", "N|C|[other:x]|spät"]
