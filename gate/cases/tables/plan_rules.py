@@ -3,7 +3,7 @@
 from typing import List, Tuple
 
 from harness import Case
-from tables.building import answer, stats
+from tables.building import answer, fault, rows, stats
 from tables.plan_texts import CHILD, ONE_START, plan_of, refused, rooted
 
 
@@ -16,47 +16,25 @@ def locks(keys) -> str:
     return ',"locks":[' + ",".join(f'{{"key":"{key}","mode":"read"}}' for key in keys) + "]"
 
 
-RULES = [
-    *each_refused(
-        "entry key twice",
-        ("entry key twice", rooted(',"entries":[[["k","1"],["k","2"]]]')),
-        ("entry key twice with one value", rooted(',"entries":[[["k","1"],["k","1"]]]')),
-        ("entry key twice apart", rooted(',"entries":[[],[["k","1"],["l","1"],["k","2"]]]')),
-        ("empty entry key twice", rooted(',"entries":[[["",""],["",""]]]')),
-        ("entry key twice of a skipped node", rooted(',"skip":"off","entries":[[["k","1"],["k","2"]]]')),
-        ("entry key twice before the id", plan_of('{"type":"test","segment":["",""],"name":"","entries":[[["k","1"],["k","2"]]]}')),
-        ("entry key twice before the children", rooted(',"entries":[[["k","1"],["k","2"]]],"children":[3]')),
-    ),
-    *each_refused(
-        "plan id is bad",
-        ("empty tag", plan_of('{"type":"test","segment":["","x"],"name":"e"}')),
-        ("empty value", plan_of('{"type":"test","segment":["x",""],"name":"e"}')),
-        ("empty segment", plan_of('{"type":"test","segment":["",""],"name":"e"}')),
-        ("empty tag of a child", rooted(',"children":[{"type":"test","segment":["","y"],"name":"m"}]')),
-        ("empty tag before too many resources", plan_of('{"type":"test","segment":["","x"],"name":"e"' + locks(range(16)) + "}")),
-        ("empty value of a dynamic node", rooted(',"dynamic":[{"type":"test","segment":["x",""],"name":"m"}]')),
-    ),
+def rule(name: str, plan: str, line: str):
+    return fault(name, "run --workers 2", plan, line)
+
+
+def rule_of_root(name: str, members: str, line: str):
+    return rule(name, rooted(members), line)
+
+
+TWICE = [
     *each_refused(
         "plan table is refused",
-        ("children twice", rooted(',"children":[CHILD,CHILD]')),
-        ("dynamic nodes twice", rooted(',"dynamic":[CHILD,CHILD]')),
-        ("a child and a dynamic node", rooted(',"children":[CHILD],"dynamic":[CHILD]')),
-        ("a dynamic node and a child, as they are written", rooted(',"dynamic":[CHILD],"children":[CHILD]')),
-        ("children twice below a skipped node", rooted(',"skip":"off","children":[CHILD,CHILD]')),
-        ("children twice with other types and names", rooted(',"children":[CHILD,{"type":"container","segment":["b","y"],"name":"n"}]')),
-        ("twice before a later node", rooted(',"children":[CHILD,CHILD,3]')),
         ("children twice with long values", rooted(',"children":[CHILD,CHILD]').replace('"y"', f'"{"y" * 4_000}"')),
         ("dynamic nodes twice with long tags", rooted(',"dynamic":[CHILD,CHILD]').replace('"b"', f'"{"b" * 4_000}"')),
     ),
-    refused("member before entry key twice", rooted(',"entries":[[["k","1"],["k","2"]]],"dynamic":3'), "plan member /root/dynamic is bad"),
-    refused("a node before twice", rooted(',"children":[CHILD,3,CHILD]'), "plan member /root/children/1 is bad"),
     refused(
-        "member before twice",
-        rooted(',"children":[CHILD,{"type":"test","segment":["b","y"],"name":3}]'),
-        "plan member /root/children/1/name is bad",
+        "empty tag before too many resources",
+        *(plan_of('{"type":"test","segment":["","x"],"name":"e"' + locks(range(16)) + "}"), "plan id is bad"),
     ),
 ]
-
 
 FIFTEEN = [f"k{number}" for number in range(15)]
 SIXTEENTH = CHILD[:-1] + locks(["x"]) + "}"
@@ -126,37 +104,35 @@ def long_id_report(escaped: str, count: int) -> str:
 
 LOWER = ',"children":[{"type":"test","segment":["c","y"],"name":"m"}]'
 
+LOWER_OF_DYNAMIC = LOWER.replace("children", "dynamic")
+LONG = "[s:" + "x" * 4_086 + "]"
+
+
+def two_passed(dynamic: int, registered: str) -> str:
+    """The report of a root with a long id and the test `[c:y]` below it."""
+    return stats(started=2, finished=2, succeeded=2, dynamic=dynamic) + f"{LONG}\n  start\n  finish|ok\n{LONG}/[c:y]\n{registered}  start\n  finish|ok\n"
+
+
 LONG_IDS = [
     answer("plan/id of 4,096 bytes", "run", long_id("x", 4_092), long_id_report("x", 4_092)),
-    refused("id of 4,097 bytes", long_id("x", 4_093), "plan id is bad"),
     answer("plan/id of 4,096 bytes with escapes", "run", long_id("/", 1_364), long_id_report("%2F", 1_364)),
-    refused("id of 4,099 bytes with escapes", long_id("/", 1_365), "plan id is bad"),
     answer("plan/id of 4,096 bytes not ASCII", "run", long_id("é", 2_046), long_id_report("é", 2_046)),
-    refused("id of 4,098 bytes not ASCII", long_id("é", 2_047), "plan id is bad"),
-    answer(
-        "plan/child's id of 4,096 bytes",
-        "run",
-        long_id("x", 4_086, LOWER),
-        stats(started=2, finished=2, succeeded=2)
-        + f"[s:{'x' * 4_086}]\n  start\n  finish|ok\n[s:{'x' * 4_086}]/[c:y]\n  start\n  finish|ok\n",
-    ),
-    refused("child's id of 4,097 bytes", long_id("x", 4_087, LOWER), "plan id is bad"),
+    answer("plan/child's id of 4,096 bytes", "run", long_id("x", 4_086, LOWER), two_passed(0, "")),
     answer(
         "plan/dynamic node's id of 4,096 bytes",
-        "run",
-        long_id("x", 4_086, LOWER.replace("children", "dynamic")),
-        stats(started=2, finished=2, succeeded=2, dynamic=1)
-        + f"[s:{'x' * 4_086}]\n  start\n  finish|ok\n"
-        + f"[s:{'x' * 4_086}]/[c:y]\n  dynamic|T|[s:{'x' * 4_086}]/[c:y]|m\n  start\n  finish|ok\n",
+        *("run", long_id("x", 4_086, LOWER_OF_DYNAMIC), two_passed(1, f"  dynamic|T|{LONG}/[c:y]|m\n")),
     ),
-    refused("id of 1,000,000 bytes", long_id("x", 999_996), "plan id is bad"),
-    refused(
-        "id of 4,097 bytes at level 60",
-        chain(59, ',"children":[{"type":"test","segment":["t","' + "y" * 3_739 + '"],"name":"m"}]'),
+    *each_refused(
         "plan id is bad",
+        ("id of 4,097 bytes", long_id("x", 4_093)),
+        ("id of 4,099 bytes with escapes", long_id("/", 1_365)),
+        ("id of 4,098 bytes not ASCII", long_id("é", 2_047)),
+        ("child's id of 4,097 bytes", long_id("x", 4_087, LOWER)),
+        ("id of 1,000,000 bytes", long_id("x", 999_996)),
+        ("id of 4,097 bytes at level 60", chain(59, ',"children":[{"type":"test","segment":["t","' + "y" * 3_739 + '"],"name":"m"}]')),
+        ("dynamic node's id of 4,097 bytes", long_id("x", 4_087, LOWER_OF_DYNAMIC)),
+        ("child's id of 4,097 bytes below a skipped node", long_id("x", 4_087, ',"skip":"off"' + LOWER)),
     ),
-    refused("dynamic node's id of 4,097 bytes", long_id("x", 4_087, LOWER.replace("children", "dynamic")), "plan id is bad"),
-    refused("child's id of 4,097 bytes below a skipped node", long_id("x", 4_087, ',"skip":"off"' + LOWER), "plan id is bad"),
 ]
 
-CASES = RULES + RESOURCES + LEVELS + LONG_IDS
+CASES = rows(__file__, globals()) + TWICE + RESOURCES + LEVELS + LONG_IDS
