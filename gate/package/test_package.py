@@ -18,8 +18,8 @@ from repository import BUILT, MOMENT, RUN, Repository, read
 VERSION = read(f"{TOP}/VERSION").decode().strip()
 INSIDE = f"testkit-{VERSION}"
 TAR, DEB, JAR = f"{INSIDE}-x86_64-linux.tar.gz", f"testkit_{VERSION}_amd64.deb", "testkit-listener.jar"
-TOOLS = {"asking.py", "from-open-test-reporting", "trace", "timeline", "timeline.py", "timeline.css", "timeline.html", "timeline.js"}
 COMMANDS = ("from-open-test-reporting", "timeline", "trace")
+TOOLS = {"asking.py", "python.sh", *COMMANDS, *(f"{it}.py" for it in COMMANDS), "timeline.css", "timeline.html", "timeline.js"}
 """The tools of which Debian's package makes commands."""
 EXPLAIN = "usr/bin/testkit-explain"
 MAVEN = f"maven/testkit/testkit-listener/{VERSION}/testkit-listener-{VERSION}"

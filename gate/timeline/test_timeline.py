@@ -1,4 +1,4 @@
-"""Tests `tools/timeline`: what it refuses, and its page in Chromium (Debian's package `chromium`), as somebody sees and uses it."""
+"""Tests `tools/timeline` and `tools/trace`: what they refuse, and the page in Chromium (Debian's package `chromium`), as somebody sees and uses it."""
 
 import base64
 import hashlib
@@ -108,6 +108,14 @@ class Page(WithProgram):
             with self.subTest(name):
                 ran = self.drawn(record)
                 self.assertEqual((ran.status, ran.output, ran.error), (2, b"", line))
+
+    @parameterized(["timeline", "trace", "from-open-test-reporting"], name=str)
+    def test_folder(self, tool):
+        """Standard input is a folder, at which Python itself would end with 1."""
+        opened = os.open(TOP, os.O_RDONLY)
+        self.addCleanup(os.close, opened)
+        ran = run([f"{TOP}/tools/{tool}"], stdin=opened)
+        self.assertEqual((ran.status, ran.output, ran.error), (70, b"", f"tools/{tool}: standard input is a folder\n".encode()))
 
     def test_words(self):
         ran = self.drawn(MIXED, "/none.record")
