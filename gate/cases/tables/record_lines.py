@@ -38,6 +38,18 @@ def good_node(line: str):
     return answer(f"node line/{line!r}", STATS, record(line), stats())
 
 
+def bad_nodes(lines: str):
+    return list(map(second_line, lines.split(" ")))
+
+
+def bad_entries(lines: str):
+    return [third_line(line, "is bad") for line in lines.split(" ")]
+
+
+def bad_locks(lines: str):
+    return [refused(f"lock line/{line!r}", record(NODE, line), "line 3 is bad") for line in lines.split(" ")]
+
+
 def any_question(name: str):
     """Each question refuses an unknown key."""
     return fault(name, f"ask {name.partition('/')[2]}", record(NODE, "E|1|5|0|start"), "line 3 has an unknown key")
@@ -48,28 +60,9 @@ def out_of_order(name: str, *lines: str):
     return refused(name, LOCK_HEADER + record(NODE, *lines).partition("\n")[2], "line 4 is bad")
 
 
-BAD_NODES = r"""
-N N| N|T N|T|[engine:e] N|T|[engine:e]|e| N|T|[engine:e]|e|f N|t|[engine:e]|e N||[engine:e]|e N|TT|[engine:e]|e
-N|D|[engine:e]|e n|T|[engine:e]|e N|T|[engine:e]|\e N|T|[engine:e]|\P N|T|[engine:e]|\r N|T|\[engine:e]|e N|T|[engine:e]/[t:1]|e
-M|T|[engine:e]|e NN|T|[engine:e]|e S S|t W|1 | #
-""".split()
-BAD_NODES += [" N|T|[engine:e]|e", "N|T |[engine:e]|e", "N|T|[engine:e]|e\\"]
+BAD_NODES = ["|", " N|T|[engine:e]|e", "N|T |[engine:e]|e", "N|T|[engine:e]|e\\"]
 
-BAD_ENTRIES = r"""
-E E| E|1 E|1|0 E|1|0|0 E|1|0|0| e|1|0|0|start E|1|0|0|START E|1|0|0|started E|1|0|0|star E|1|0|0|start| E|1|0|0|begin
-E|01|0|0|start E|1|00|0|start E|1|0|00|start E|1|0|007|start E||0|0|start E|1||0|start E|1|0||start E|+1|0|0|start
-E|-1|0|0|start E|1|-0|0|start E|1|0|+0|start E|1|0|1e0|start E|1|0|1.0|start E|1|0|1_0|start E|a|0|0|start E|1|0x0|0|start
-E|١|0|0|start E|256|0|0|start E|1000|0|0|start E|1|4294967296|0|start E|1|0|18446744073709551616|start
-E|1|0|99999999999999999999|start E|1|0|100000000000000000000|start
-E|1|0|0|finish E|1|0|0|finish| E|1|0|0|finish|good E|1|0|0|finish|OK E|1|0|0|finish|ok| E|1|0|0|finish|ok|well
-E|1|0|0|finish|failed E|1|0|0|finish|fail|a|b E|1|0|0|finish|abort|a| E|1|0|0|finish|fail|a\b
-E|1|0|0|skip E|1|0|0|skip|off|on E|1|0|0|skip|\x E|1|0|0|skipped|off
-E|1|0|0|report|k E|1|0|0|report| E|1|0|0|report|k|v|l E|1|0|0|report|k\|v
-E|1|0|0|dynamic E|1|65536|0|dynamic|T|[engine:e]/[d:1] E|1|65536|0|dynamic|T|[engine:e]/[d:1]|one|
-E|1|65536|0|dynamic|X|[engine:e]/[d:1]|one E|1|65536|0|dynamic|t|[engine:e]/[d:1]|one E|1|65536|0|dynamic|T||one
-E|1|65536|0|dynamic|T|[engine]|one E|1|65536|0|dynamic|T|[engine:e]/|one
-""".split()
-BAD_ENTRIES += ["", " ", "E|1|0|0|start ", "E|1|0|0|start\r", "E|1|0|0| start", "E| 1|0|0|start", "E|1 |0|0|start"]
+BAD_ENTRIES = ["", " ", "E|1|0|0|start ", "E|1|0|0|start\r", "E|1|0|0| start", "E| 1|0|0|start", "E|1 |0|0|start"]
 BAD_ENTRIES += ["E|1|0|0|finish|fail|\\", "E|1|0|0|report|k|\\", "E|1|65536|0|dynamic|T|[engine:e]/[d:1]|\\"]
 BAD_ENTRIES += ["E|9|7|0|finish|ok|a form that is bad comes before an unknown key"]
 
@@ -82,11 +75,6 @@ UNLAWFUL = f"""
 E|{form.MAX_WORKERS + 1}|0|0|start E|17|0|0|start E|255|0|0|start E|17|0|0|report|b|1|a|2 E|1|0|0|report|b|1|a|2
 E|1|0|0|report|a|1|a|1 E|1|0|0|report|a|1|b|2|b|3 E|1|0|0|report|a|1||2 E|1|0|0|report|ab|1|a|2 E|1|0|0|report|a|1|B|2
 E|1|0|0|report|é|1|z|2
-""".split()
-
-BAD_LOCKS = r"""
-L L| L|0 L|0|W L|0|W| L|0|W|db| L|0|W|db|net L|0|w|db L|0||db L|0|RW|db L|0|R,W|db L||W|db L|00|W|db L|+0|W|db L|-0|W|db L|x|W|db
-L|1|W|db L|65536|W|db L|4294967295|W|db L|4294967296|W|db L|0|W|d\x L|0|W|\ LL|0|W|db L|W|0|db
 """.split()
 
 FIRST, SECOND, OTHER = (f"E|{key}|0|dynamic|T|[engine:e]/[d:1]|one" for key in ("1|65536", "1|65537", "2|131072"))
@@ -149,7 +137,6 @@ CASES = rows(__file__, globals()) + [
         for above in [[NODE] if line.startswith(b"E") else []]
     ],
     refused("files/in version 1", f"testkit-record|1\n{NODE}\nE|1|0|0|file|a\n", "line 3 is bad"),
-    *[refused(f"lock line/{line!r}", record(NODE, line), "line 3 is bad") for line in BAD_LOCKS],
     *[refused(f"lock lines/in version {it}", f"testkit-record|{it}\n{NODE}\nL|0|W|db\n", "line 3 is bad") for it in form.VERSIONS],
     refused("lock lines/no text", record(NODE, "L|0|W|").encode()[:-1] + b"\xff\n", "line 3 is bad"),
     refused("lock lines/no line feed", record(NODE, "L|0|W|db")[:-1], "line 3 is bad"),
