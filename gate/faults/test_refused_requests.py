@@ -19,6 +19,7 @@ from dataclasses import dataclass, replace
 from typing import Callable, Dict, FrozenSet, List, Optional, Sequence, Set, Tuple
 
 from fixtures import PROGRAM, TEST_CRATES, TOP, WithProgram, parameterized
+from rows import rows
 
 sys.path.append(f"{TOP}/gate/cases")
 
@@ -52,18 +53,9 @@ DEVICE_FAILED = re.compile(rb"testkit: device failed\n")
 UNIT_FAILED = re.compile(rb"testkit: unit ([0-9]+) failed\n")
 
 REQUESTS = [
-    ("malloc", "memory"),
-    ("calloc", "memory"),
-    ("realloc", "memory"),
-    ("aligned_alloc", "memory"),
-    ("posix_memalign", "memory"),
-    ("pthread_create", "thread"),
-    ("read", "read"),
-    ("readv", "read"),
-    ("write 1", "write"),
-    ("writev 1", "write"),
-    ("write 2", "message"),
-    ("writev 2", "message"),
+    *[(name, "memory") for name in ("malloc", "calloc", "realloc", "aligned_alloc", "posix_memalign")],
+    *[("pthread_create", "thread"), ("read", "read"), ("readv", "read")],
+    *[("write 1", "write"), ("writev 1", "write"), ("write 2", "message"), ("writev 2", "message")],
 ]
 """The functions that refuse.c stands for, and the kind of their requests."""
 
@@ -204,8 +196,19 @@ class Command:
 
 
 OF_A_RECORD = {"memory": 29, "read": 2, "write": 1}
-OF_A_LONG_RECORD = {**OF_A_RECORD, "memory": 34}
-OF_A_RUN = {"memory": 190, "read": 2, "write": 1}
+
+
+def of_a_record(words: str, text: str) -> Command:
+    return Command(words, text, OF_A_RECORD)
+
+
+def of_a_long_record(words: str, text: str) -> Command:
+    return Command(words, text, {**OF_A_RECORD, "memory": 34})
+
+
+def of_a_run(words: str, text: str, threads: str, kept: int, units: str = "0") -> Command:
+    return Command(words, text, {"memory": 190, "read": 2, "write": 1, "thread": int(threads)}, kept, frozenset(range(int(units))))
+
 
 LONGER = " in more bytes than stand in a value"
 """What makes a text longer than 16 bytes, so that it has memory of its own."""
@@ -226,43 +229,7 @@ CHILD_RUNS = TWO_TESTS.replace("E|1|1|2|finish|fail|boom\n", "")
 SKIP_REPLAY = f"testkit-replay|2\nW|1\nN|T|[engine:e]|e\nE|1|0|7|skip|off{LONGER}\nS|1|t\n"
 """The first event that waits has a text of its own, which goes back where there is no memory for the list of what waits."""
 
-COMMANDS = [
-    Command("ask stats", TWO_TESTS, OF_A_RECORD),
-    Command("ask stats failed=1 started=3", TWO_TESTS, OF_A_RECORD),
-    Command("ask count started", TWO_TESTS, OF_A_RECORD),
-    Command("ask match exactly started", TWO_TESTS, OF_A_RECORD),
-    Command("ask match loosely all(test,started) any(failed(boom),not(entry(k,v)))", TWO_TESTS, OF_A_RECORD),
-    Command("ask match in-order started succeeded", TWO_TESTS, OF_A_RECORD),
-    Command("ask list all", TWO_TESTS, OF_A_RECORD),
-    Command("ask list tests not(started) any(failed(boom),skipped(off))", TWO_TESTS, OF_A_RECORD),
-    Command("ask executions", TWO_TESTS, OF_A_RECORD),
-    Command("ask exclusive all(test,started) any(failed(boom),not(entry(k,v)))", TWO_TESTS, OF_A_RECORD),
-    Command("ask lifecycle", TWO_TESTS, OF_A_RECORD),
-    Command("ask locks", LONG_LOCKS, OF_A_LONG_RECORD),
-    Command("ask report", TWO_TESTS, OF_A_RECORD),
-    Command("ask explain exactly container started any() skipped(off) engine", TWO_TESTS, OF_A_RECORD),
-    Command("ask explain exactly started", TWO_TESTS, OF_A_RECORD),
-    Command("ask explain loosely started all(test,failed(bang),id(t:1))", TWO_TESTS, OF_A_RECORD),
-    Command("ask explain loosely started failed(boom)", TWO_TESTS, OF_A_RECORD),
-    Command("ask explain in-order started succeeded started", TWO_TESTS, OF_A_RECORD),
-    Command("ask explain list all", TWO_TESTS, OF_A_RECORD),
-    Command("ask explain exclusive all()", TWO_TESTS, OF_A_RECORD),
-    Command("ask explain executions", TWO_TESTS, OF_A_RECORD),
-    Command("ask explain lifecycle", CHILD_RUNS, OF_A_RECORD),
-    Command("ask explain lifecycle", NEVER_FINISHES, OF_A_RECORD),
-    Command("ask explain locks", LONG_LOCKS, OF_A_LONG_RECORD),
-    Command("ask explain loosely failed(bang)", LONG_RECORD, OF_A_LONG_RECORD),
-    Command("ask stats", LONG_RECORD, OF_A_LONG_RECORD),
-    Command("ask executions", LONG_RECORD, OF_A_LONG_RECORD),
-    Command("ask report", LONG_RECORD, OF_A_LONG_RECORD),
-    Command("replay", SMALL_REPLAY, OF_A_RECORD),
-    Command("replay", SKIP_REPLAY, OF_A_RECORD),
-    Command("run", DEMO_PLAN, {**OF_A_RUN, "thread": 1}, KEPT_BY_RUN, frozenset(range(4))),
-    Command("run --record", LONG_PLAN, {**OF_A_RUN, "thread": 1}, KEPT_LONG, frozenset(range(4))),
-    Command("run --workers 2", DEMO_PLAN, {**OF_A_RUN, "thread": 2}, KEPT_BY_RUN),
-    Command("run --workers=15", DEMO_PLAN, {**OF_A_RUN, "thread": 15}, KEPT_BY_RUN),
-    Command("run", LONG_PLAN, {**OF_A_RUN, "thread": 1}, KEPT_LONG, frozenset(range(4))),
-]
+COMMANDS = rows(__file__, globals())
 
 SIXTEEN_LOCKS = DEMO_PLAN.replace('[{"key":"db"}]', "[" + ",".join(f'{{"key":"{key}{LONGER}"}}' for key in range(16)) + "]")
 """The demo plan with a lock too many."""

@@ -7,15 +7,16 @@
 The words are a text with blanks between the words, or a list of words (texts or bytes). Input and output are
 texts or bytes, or a function that makes bytes when the case runs. A text that is an output ends with a line feed, also where none is written.
 
-Most cases are rows of a file `NAME.rows` beside the module `NAME`: see `rows`.
+Most cases are rows of a file `NAME.rows` beside the module `NAME`: see gate/rows.py.
 """
 
 import os
 import re
-from typing import Callable, Dict, List, Sequence, Tuple, Union
+from typing import Callable, List, Sequence, Tuple, Union
 
 import form
 from harness import Bytes, Case
+from rows import rows
 
 Word = Union[str, bytes]
 Text = Union[str, Bytes]
@@ -102,37 +103,3 @@ def lines_of(name: str) -> List[str]:
     """The lines of a text of the file `texts.lines`: those below its name in brackets, up to an empty line."""
     with open(os.path.join(os.path.dirname(__file__), "texts.lines"), encoding="utf-8", newline="\n") as file:
         return file.read().partition(f"[{name}]\n")[2].partition("\n\n")[0].rstrip("\n").split("\n")
-
-
-NAME = re.compile(r"(?<!\S)[A-Z][A-Z0-9_]{2,}(?!\S)")
-
-
-def rows(path: str, names: Dict[str, object]) -> List[Case]:
-    """The cases of the file `NAME.rows` beside the module `NAME.py` of this path, which has these names.
-
-    A line `[maker] title` begins a section. Each line below it is a row, a call of the module's function `maker`; its fields stand apart by
-    ` | `, and the first one after the title. A line `> text` is a further line of the last field. A word in capitals that is a name of the
-    module is what the module calls so, `""` is an empty field, `␊` a line feed in one, and a line that begins with `# ` is a comment.
-    """
-    cases, make, title = [], None, ""
-    with open(path[: -len(".py")] + ".rows", encoding="utf-8", newline="\n") as file:
-        lines = re.sub("(?m)^# .*\n", "", file.read()).replace("\n> ", "\0").split("\n")
-    for line in filter(None, lines):
-        section = re.fullmatch(r"\[(\w+)\] ?(.*)", line)
-        if section:
-            make, title = names[section[1]], section[2] + " " * (section[2][-1:] not in ("", "/"))
-            continue
-        row, *more = line.split("\0")
-        fields = [value_of(field, names) for field in row.split(" | ")]
-        if more:
-            fields[-1] = "\n".join([fields[-1].rstrip("\n"), *more])
-        made = make(title + fields[0] if title else fields[0], *fields[1:])
-        cases += made if isinstance(made, list) else [made]
-    return cases
-
-
-def value_of(field: str, names: Dict[str, object]) -> object:
-    """What a field of a row stands for."""
-    if NAME.fullmatch(field):
-        return names[field]
-    return "" if field == '""' else NAME.sub(lambda word: str(names.get(word[0], word[0])), field.replace("␊", "\n"))
