@@ -1,4 +1,4 @@
-"""Tables that stand in files of their own."""
+"""Tables and texts that stand in files of their own."""
 
 import re
 from typing import Dict, List
@@ -35,3 +35,10 @@ def value_of(field: str, names: Dict[str, object]) -> object:
     if NAME.fullmatch(field):
         return names[field]
     return "" if field == '""' else NAME.sub(lambda word: str(names.get(word[0], word[0])), field.replace("␊", "\n"))
+
+
+def texts(path: str) -> Dict[str, str]:
+    """The texts of a file by their names; above each stands a line `== NAME`."""
+    with open(path, encoding="utf-8", newline="\n") as file:
+        parts = re.split("(?m)^== (.*)\n", file.read())[1:]
+    return dict(zip(parts[::2], parts[1::2]))

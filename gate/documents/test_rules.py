@@ -1,5 +1,6 @@
 """Holds the checks of commands, names, quotes and figures against small trees that are right, or wrong in one way."""
 
+import os
 import unittest
 from operator import itemgetter
 
@@ -7,64 +8,12 @@ from commands import examples_of
 from documents import documents_of
 from fixtures import folder, parameterized, write
 from quotes import quotes_of
+from rows import texts
 from rules import rules_of
 from tree import Tree
 
-README = """# Small
-
-`first_bits` of `low`, `Record::append` of `high`; a call `run(first)`, `crates/low/src/lib.rt`, `crates/NAME/none`.
-
-    $ ./testkit three
-    one
-    two
-    three
-    $ ./testkit three; exit 2    # status 2
-    one
-    ..
-    three
-    $ $PROGRAM three | head -n 1
-    one
-
-Two words of others: `JUnitName`, and `Assertion`.
-
-```
-$ no command `last_bits`
-```
-
-*Each first bit is low. No bit's first.*
-
-Measured (`docs/SPEED.md`): `run` is 4 times as fast. `ask first` takes 1.5 times the time and 0.9 times the memory; `run` 4.2.
-"""
-SPEED = """# Speed
-
-| `run` at least 4 times as fast | 4.2 times |
-| `ask first` likewise; `ask second` | 1.50 times, 1.5 (1.4-1.6) |
-| and in no more memory | 0.9 times |
-"""
-HEADLINE = "pub record Headline : Type 0 where\n  -- Each first bit\n  -- is low.\n  pub first_is_low : A\n  -- No bit's first.\n  pub no_bits_first :\n      B\n"
-USE = "# Use\n\n![What it does](use.svg)\n\n`all the words of it`.\n\n    $ cat tools/list\n    first\n    ..\n    fourth\n"
-CODE = "crates/high/src/lib.rt"
-LOW = f"# low\n\nFrom {CODE}:\n\n```rust\nif at < first_bits {{\n    append(at)\n}}\n```\n"
-HIGH = "# high\n\nFrom `crates/low/specs/Bits.antt`, shortened by nothing:\n\n    abbrev pub first_bits : ℕ\n    first_bits = 1\n"
-TREE = {
-    "README.md": README,
-    "docs/USE.md": USE,
-    "docs/SPEED.md": SPEED,
-    "crates.txt": "low:\nhigh: low  # a comment\ntop staticlib: high\n",
-    "crates/low/README.md": LOW,
-    "crates/high/README.md": HIGH,
-    "crates/top/README.md": "# top\n\n`Bits`, `append`\n",
-    "crates/low/src/lib.rt": "pub fn first() {}\n// no_name stands in a comment alone\n",
-    "crates/low/specs/Bits.antt": "abbrev pub first_bits : ℕ\nfirst_bits = 1\n",
-    CODE: "impl Record {\n    fn append() {\n        if at < first_bits {\n            append(at)\n        }\n    }\n}\n",
-    "crates/top/src/lib.rt": "fn above_name() {}\n",
-    "gate/documents/other_names.txt": "# names of others\nJUnitName Assertion\n",
-    "crates/testkit_headline/specs/Headline.antt": HEADLINE,
-    "docs/use.svg": "<svg/>",
-    "tools/list": "first\nsecond\nthird\nfourth\n",
-    "tools/run": "run()\n",
-    "crates/unlisted/src/lib.rt": "if at < first_bits {\n    append(at)\n}\n",
-}
+TREE = texts(f"{os.path.dirname(__file__)}/right.tree")
+"""The files of a tree that is right."""
 PROGRAM = "#!/bin/sh\nprintf 'one\\ntwo\\nthree\\n'\n"
 LISTED = ["README.md", "docs/SPEED.md", "docs/USE.md"]
 

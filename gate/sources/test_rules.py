@@ -1,9 +1,11 @@
 """Holds each rule for sources against small trees that are right, or wrong in one way."""
 
+import os
 import unittest
 from operator import itemgetter
 
 from fixtures import folder, parameterized, write
+from rows import texts
 from rules import Limits, rules_of
 from tree import Tree
 
@@ -12,84 +14,11 @@ LIMITS = Limits(
     ["crates/tk_low/src/lanes.rt spare"], 2, 2,
 )
 
-LANES = """//! Lanes.
-mod parts;
-ghost use Rattle.tk_low.specs.Lanes.{lanes};
-/// A "lane".
-pub struct Lane {
-    count: u32,
-}
-
-impl From<AllocError> for LaneFault {
-    fn from(_: AllocError) -> LaneFault {
-        LaneFault::Memory
-    }
-}
-
-impl Lane {
-    pub fn new(alloc: Global) -> Result<Lane, LaneFault>
-        ensures count { IfOk result (λ lane. lane.count ≡ 0) }
-    {
-        let Ok(lane) = Lane::made(alloc) else {
-            // No allocation failed here: `made` answers an error only where its own allocation failed.
-            return Err(LaneFault::Memory);
-        };
-        Ok(lane)
-    }
-
-    pub fn count(&self) -> u32
-        ensures { result ≡ lanes self.count }
-    {
-        self.count
-    }
-
-    pub fn spare(&self) {}
-
-    fn made(alloc: Global) -> Result<Lane, AllocError> {
-        match boxed(alloc) {
-            Ok(count) => Ok(Lane { count }),
-            Err(LaneFault::Memory) => Err(AllocError),
-            Err(LaneFault::Full) => unreachable!(),
-        }
-    }
-}
-
-pub fn boxed(alloc: Global) -> Result<u32, LaneFault>
-    ensures value {
-        IfOk result (λ value. value ≡ 1) }
-{
-    let text = "Memory";
-    Ok(1)
-}
-"""
 LOW, ROOT, UPPER, LOWER = "crates/tk_low/src/lanes.rt", *(f"crates/engine_testkit/src/{it}.rt" for it in ("lib", "upper", "lower"))
 HIGH, TESTS, EDIT = "crates/tk_high/src/lib.rt", "crates/test_low/src/lib.rt", "crates/tk_low/must-fail/count.edit"
 BOXES = "crates/tk_low/specs/steps/Boxes.antt"
-TREE = {
-    "HANDLES": LIMITS.handles,
-    "crates.txt": "tk_low:\n# a comment\ntk_high: tk_low indexmap\nengine_testkit: tk_low tk_high\ntest_low tests_may=Wait: tk_low\n",
-    "crates/tk_low/src/lib.rt": "mod lanes;\n\npub use lanes::{Lane, parts::{LaneFault}};\npub use lanes::{\n    boxed,\n};\npub mod laws;\n",
-    "crates/tk_low/src/laws.rt": "pub fn law()\n    ensures { Unit {0} }\n{\n}\n",
-    LOW: LANES,
-    "crates/tk_low/src/lanes/parts.rt": "// unsafe\n",
-    "crates/tk_low/specs/Lib.antt": "pub mod Lanes\npub mod steps\n",
-    "crates/tk_low/specs/Lanes.antt": "-- " + "x" * 97 + "\nabbrev pub lanes : ℕ\n",
-    "crates/tk_low/specs/steps.antt": "pub mod Boxes\n",
-    BOXES: "use Rattle.tk_low.specs.Lanes.{lanes}\nabbrev pub boxes : ℕ\nboxes = lanes\n",
-    "crates/tk_low/proofs/Lib.antt": "mod Steps\n",
-    "crates/tk_low/proofs/Steps.antt": "y" * 200 + "\n",
-    "crates/tk_low/proofs/lanes/boxed/Answers.antt": "",
-    EDIT: "file: src/lanes.rt\nold:         self.count\nnew:         self.count + 1\n",
-    HIGH: "pub use tk_low::{Lane, LaneFault};\n\npub const TOP: u32 = 4;\n\npub fn high() -> u32\n    ensures { result ≡ 1 }\n{\n    1\n}\n",
-    "crates/tk_high/must-fail/high.edit": "file: src/lib.rt\nold: u32 = 4\nnew: u32 = 5\nold: u32 = 5;\nnew: u32 = 6;\n",
-    ROOT: "pub mod lower;\npub mod upper;\n\npub use lower::Lane;\npub use upper::high;\n",
-    "crates/engine_testkit/specs/Lib.antt": "pub use Rattle.tk_low.specs.Lanes\n",
-    "docs/ENGINES.md": "Name `Lane`, `LaneFault`:\n\n    boxed\n\n```rust\nTOP + high()\n```\n",
-    UPPER: "pub use tk_high::TOP;\npub use tk_high::high;\n",
-    LOWER: "pub use tk_low::{Lane, LaneFault as LaneFault};\npub use tk_low::{\n    boxed,\n};\n",
-    TESTS: "#[test]\nfn lanes() {\n    Lane::new(alloc).spare();\n    assert!(lane.count() == boxed(alloc));\n}\n\n"
-    "mod more {\n    #[test]\n    fn highs() {\n        assert!(high() == 1);\n    }\n}\n",
-}
+TREE = texts(f"{os.path.dirname(__file__)}/right.tree")
+"""The files of a tree that is right."""
 
 
 def changed(path, old, new):

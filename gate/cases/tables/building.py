@@ -16,7 +16,7 @@ from typing import Callable, List, Sequence, Tuple, Union
 
 import form
 from harness import Bytes, Case
-from rows import rows
+from rows import rows, texts
 
 Word = Union[str, bytes]
 Text = Union[str, Bytes]
@@ -99,7 +99,9 @@ def replay(*lines: str) -> str:
     return REPLAY_HEADER + "".join(line + "\n" for line in lines)
 
 
+TEXTS = texts(f"{os.path.dirname(__file__)}/texts.lines")
+
+
 def lines_of(name: str) -> List[str]:
-    """The lines of a text of the file `texts.lines`: those below its name in brackets, up to an empty line."""
-    with open(os.path.join(os.path.dirname(__file__), "texts.lines"), encoding="utf-8", newline="\n") as file:
-        return file.read().partition(f"[{name}]\n")[2].partition("\n\n")[0].rstrip("\n").split("\n")
+    """The lines of a text of the file `texts.lines`."""
+    return TEXTS[name].rstrip("\n").split("\n")
