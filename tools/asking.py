@@ -1,5 +1,6 @@
 """How the scripts of tools/ ask the program about a record, and end."""
 
+import argparse
 import contextlib
 import os
 import subprocess
@@ -16,6 +17,16 @@ class Failed(Exception):
 
 class Refused(Exception):
     """What was asked for is refused: the status, and the line on standard error."""
+
+
+class Words(argparse.ArgumentParser):
+    """The words of a script with this name, these words and this docstring; wrong ones are a fault of the script."""
+
+    def __init__(self, name: str, words: str, text: str) -> None:
+        super().__init__(prog=name, usage=f"{name} {words}".rstrip(), description=text, formatter_class=argparse.RawDescriptionHelpFormatter)
+
+    def error(self, message: str) -> None:
+        raise Failed(f"{message}; usage: {self.usage}")
 
 
 def ask(file: BinaryIO, *words: bytes) -> Tuple[int, bytes]:

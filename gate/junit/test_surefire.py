@@ -20,14 +20,6 @@ REPOSITORY = "/usr/share/maven-repo"
 PLUGIN = "org.apache.maven.plugins:maven-surefire-plugin"
 CLASSES = "ABCDEF"
 
-TEST = """package demo;
-import org.junit.jupiter.api.Test;
-import org.junit.jupiter.api.parallel.ResourceLock;
-@ResourceLock("db") class {0}Test {{
-    @Test void passes() throws InterruptedException {{ Thread.sleep(20); }}
-    @Test void fails() {{ throw new IllegalStateException("boom {0}"); }}
-}}
-"""
 
 @dataclass(frozen=True)
 class Setting:
@@ -49,29 +41,10 @@ SETTINGS = [
     Setting("two executions in Maven's process at one path", 0, "true", 2, "run.record", Counter(["run.record", "run.#.record"])),
 ]
 
-POM = """<project xmlns="http://maven.apache.org/POM/4.0.0">
-  <modelVersion>4.0.0</modelVersion><groupId>demo</groupId><artifactId>demo</artifactId><version>1</version>
-{repositories}
-  <dependencies>
-{dependency}
-    <dependency><groupId>org.junit.jupiter</groupId><artifactId>junit-jupiter-engine</artifactId><version>{jupiter}</version></dependency>
-    <dependency>
-      <groupId>org.junit.platform</groupId><artifactId>junit-platform-launcher</artifactId><version>{launcher}</version>
-    </dependency>
-  </dependencies>
-  <build><plugins><plugin>
-    <groupId>org.apache.maven.plugins</groupId><artifactId>maven-surefire-plugin</artifactId><version>{surefire}</version>
-    <configuration>
-      <forkCount>{forks}</forkCount><reuseForks>{is_reused}</reuseForks><testFailureIgnore>true</testFailureIgnore>
-{systemPropertyVariables}
-    </configuration>
-    <executions>
-      <execution><id>0</id></execution>
-      <execution><id>1</id><configuration><reportNameSuffix>again</reportNameSuffix></configuration></execution>
-    </executions>
-  </plugin></plugins></build>
-</project>
-"""
+
+def of_build(name):
+    """A file of the build, with braces for what is filled in."""
+    return read(f"{java.HERE}/surefire/{name}")
 
 
 def read_bytes(path):
@@ -116,7 +89,7 @@ class OfSurefire(unittest.TestCase):
         write_repository(read_bytes(shutil.make_archive(f"{cls.top}/listener", "zip", f"{cls.top}/listener")), cls.top)
         os.makedirs(f"{cls.top}/target/test-classes")
         for name in CLASSES:
-            fixtures.write(f"{cls.top}/{name}Test.java", TEST.format(name))
+            fixtures.write(f"{cls.top}/{name}Test.java", of_build("Test.java").format(name))
         java.Classes(f"{cls.top}/target/test-classes").compile(glob.glob(f"{cls.top}/*.java"))
         # (Maven writes beside what it reads)
         shutil.copytree(REPOSITORY, f"{cls.top}/repository", copy_function=os.symlink)
@@ -130,7 +103,7 @@ class OfSurefire(unittest.TestCase):
             "surefire": surefire,
         }
         lines = {it: lines_of_document(it) for it in ("repositories", "dependency", "systemPropertyVariables")}
-        text = POM.format(forks=setting.forks, is_reused=setting.is_reused, **lines, **versions)
+        text = of_build("pom.xml").format(forks=setting.forks, is_reused=setting.is_reused, **lines, **versions)
         fixtures.write(f"{self.top}/pom.xml", text.replace("/usr/share/testkit/maven", f"{self.top}/maven").replace(DOCUMENTED, setting.path))
         for record in glob.glob(f"{self.top}/target/*.record"):
             os.remove(record)

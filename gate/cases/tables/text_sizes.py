@@ -1,14 +1,15 @@
 """Texts of 16 MiB, which is the limit, and one byte more."""
 
+from functools import partial
+
 import form
-from tables.building import HEADER, REPLAY_HEADER, answer, fault, stats
+from tables.building import HEADER, REPLAY_HEADER, answer, fault, rows
 from tables.plan_texts import ONE_START as ONE_TEST_REPORT
 from tables.texts import ONE_TEST_PLAN
 
 NODE = "N|T|[engine:e]|e\n"
 START = "E|1|0|0|start\n"
 
-TOO_LARGE = "input too large"
 MOST = form.MAX_TEXT
 
 
@@ -44,29 +45,14 @@ def plan_of_size(size: int) -> bytes:
     return (ONE_TEST_PLAN + " " * (size - len(ONE_TEST_PLAN))).encode()
 
 
-SIZES = [
-    answer("16 MiB/record", "ask stats", lambda: record_of_size(MOST), stats(skipped=1, started=1_000_000)),
-    answer("16 MiB/record, loosely", "ask match loosely started kind(skip)", lambda: record_of_size(MOST), "yes\n"),
-    answer(
-        "16 MiB/record, the list of its last event",
-        "ask list skipped not(started)",
-        lambda: record_of_size(MOST),
-        lambda: b"1000000 " + record_of_size(MOST).split(b"\n")[-2] + b"\n",
-    ),
-    answer("16 MiB/record, the list of all", "ask list all", lambda: record_of_size(MOST), lambda: listed(record_of_size(MOST))),
-    fault("16 MiB and a byte/record, listed", "ask list files", lambda: record_of_size(MOST + 1), TOO_LARGE),
-    fault("16 MiB and a byte/record", "ask stats", lambda: record_of_size(MOST + 1), TOO_LARGE),
-    fault("16 MiB and a byte/no header", "ask count all", lambda: b"x" * (MOST + 1), TOO_LARGE),
-    fault("16 MiB/no header", "ask count all", lambda: b"x" * MOST, "no header"),
-    fault("16 MiB and a byte/bad word first", "ask count", lambda: b"x" * (MOST + 1), "bad word 0"),
-    fault("32 MiB/record", "ask executions", lambda: record_of_size(2 * MOST), TOO_LARGE),
-    answer("16 MiB/replay", "replay", lambda: replay_of_size(MOST), lambda: record_of_replay(MOST)),
-    fault("16 MiB and a byte/replay", "replay", lambda: replay_of_size(MOST + 1), TOO_LARGE),
-    fault("16 MiB and a byte/replay without a header", "replay", lambda: b"x" * (MOST + 1), TOO_LARGE),
-    answer("16 MiB/plan", "run", lambda: plan_of_size(MOST), ONE_TEST_REPORT),
-    fault("16 MiB and a byte/plan", "run", lambda: plan_of_size(MOST + 1), TOO_LARGE),
-    fault("16 MiB and a byte/no plan", "run --workers 0", lambda: b"[" * (MOST + 1), TOO_LARGE),
-    fault("16 MiB/no plan", "run --workers 0", lambda: b"[" * MOST, "plan is not JSON"),
-]
+RECORD, LARGER_RECORD, LARGEST_RECORD = (partial(record_of_size, it) for it in (MOST, MOST + 1, 2 * MOST))
+REPLAY, LARGER_REPLAY = (partial(replay_of_size, it) for it in (MOST, MOST + 1))
+PLAN, LARGER_PLAN = (partial(plan_of_size, it) for it in (MOST, MOST + 1))
+TEXT, LARGER_TEXT, BRACKETS, LARGER_BRACKETS = (partial(bytes.ljust, b"", it, fill) for fill in (b"x", b"[") for it in (MOST, MOST + 1))
+RECORD_OF_REPLAY = partial(record_of_replay, MOST)
 
-CASES = SIZES
+
+LAST_EVENT = lambda: b"1000000 " + RECORD().split(b"\n")[-2] + b"\n"
+ALL_EVENTS = lambda: listed(RECORD())
+
+CASES = rows(__file__, globals())
