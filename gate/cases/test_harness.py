@@ -7,6 +7,7 @@ from unittest import mock
 import harness
 from fixtures import folder, parameterized, write
 from harness import Case, Check, Input, Output, ThreadCount
+from rows import rows
 
 PROGRAM = f"""#!/bin/sh
 case $1 in
@@ -84,3 +85,29 @@ class OfCases(unittest.TestCase):
     @parameterized(WRONG, name=lambda row: row[0].name)
     def test_wrong(self, row):
         self.assertIn(row[1], self.fault(row[0]) or "nothing")
+
+
+TABLE = """# A comment.
+[pair] title,
+one | a b | TEXT
+> more␊lines
+two | "" | a|b TEXT c
+
+[single]
+X; y
+"""
+
+
+class OfRows(unittest.TestCase):
+    def made(self, table):
+        path = f"{folder(self)}/table"
+        write(f"{path}.rows", table)
+        return rows(f"{path}.py", {"TEXT": "text\n", "pair": lambda *fields: fields, "single": lambda field: [field, field]})
+
+    def test_right(self):
+        wanted = [("title, one", "a b", "text\nmore␊lines"), ("title, two", "", "a|b text\n c"), "X; y", "X; y"]
+        self.assertEqual(wanted, self.made(TABLE))
+
+    @parameterized([("a name that isn't known", "TEXT\n", "TEXTS\n"), ("a maker that isn't known", "[pair]", "[pairs]")], name=lambda row: row[0])
+    def test_wrong(self, row):
+        self.assertRaises(KeyError, self.made, TABLE.replace(*row[1:]))

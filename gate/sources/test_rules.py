@@ -16,7 +16,6 @@ LIMITS = Limits(
 
 LOW, ROOT, UPPER, LOWER = "crates/tk_low/src/lanes.rt", *(f"crates/engine_testkit/src/{it}.rt" for it in ("lib", "upper", "lower"))
 HIGH, TESTS, EDIT = "crates/tk_high/src/lib.rt", "crates/test_low/src/lib.rt", "crates/tk_low/must-fail/count.edit"
-BOXES = "crates/tk_low/specs/steps/Boxes.antt"
 TREE = texts(f"{os.path.dirname(__file__)}/right.tree")
 """The files of a tree that is right."""
 

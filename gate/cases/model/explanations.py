@@ -1,6 +1,6 @@
 """What `ask explain` answers: the answer of a question, and below it what explains it."""
 
-from typing import Callable, Dict, List, Sequence, Tuple
+from typing import Callable, Dict, List, Sequence
 
 from model.conditions import Condition, holds, write_condition
 from model.questions import Answer, Events, executions, exclusive, first_positions, holds_at, list_events

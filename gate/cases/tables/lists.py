@@ -5,7 +5,7 @@ from typing import List
 import form
 from tables.building import answer, fault, record, refusals, rows
 from tables.questions import EVERY_KIND, SELECTED, SIXTY_FIVE_STARTS
-from tables.texts import BOTH_KINDS, CUT, DEEP, EMPTY, ONE_START, REGISTERED_TEST, TWO_TESTS, TWO_TESTS_1
+from tables.texts import BOTH_KINDS, CUT, DEEP, ONE_START, REGISTERED_TEST, TWO_TESTS, TWO_TESTS_1
 
 
 def lines(text: str, *positions: int) -> str:
