@@ -3,6 +3,7 @@
 import hashlib
 import json
 import os
+import re
 import shutil
 import subprocess
 import time
@@ -57,6 +58,7 @@ RUNS = [
     Runs("a subtest that fails", SUBTESTS.format(3), "2 passed, 1 failed", "a/test_a 3\n", says="[2]"),
     Runs("no test", "    pass\n", "0 passed, 1 failed", says="a/test_a: nothing ran"),
     Runs("a case too few", ONE, "1 passed, 1 failed", "a/test_a 2\n", says="it has 1 cases, and gate/least says 2"),
+    Runs("a case too few of many", ONE, "1 passed, 1 failed", "a/test_a 12\n", says="it has 1 cases, and gate/least says 12"),
     Runs("a case too few, and a program may be missing", ONE, "1 passed, 1 failed", "a/test_a 2\n", ["--quick"], "it has 1 cases"),
     Runs("a subject that runs alone", MARKS, "2 passed, 0 failed", "costs/test_b 1\na/test_a 1\n", others={"costs/test_b": SEES_MARK}),
     Runs("a module that isn't in the list", ONE, "2 passed, 1 failed", says="gate/least doesn't name it", others={"a/test_b": ONE}),
@@ -66,9 +68,11 @@ RUNS = [
     Runs("a module with a status", ONE + "import atexit\natexit.register(os._exit, 3)\n", "1 passed, 1 failed", says="with status 3"),
     Runs("a class that can't be prepared", ONE + "    def setUpClass(): 1 // 0\n", "0 passed, 1 failed"),
     Runs("a failure that is expected", "    @unittest.expectedFailure\n    def test_one(self): 1 // 0\n", "0 passed, 1 failed"),
+    Runs("a success where a failure is expected", "    @unittest.expectedFailure\n    def test_one(self): pass\n", "0 passed, 1 failed"),
     Runs("a skip in place of cases", ONE + SKIPPED.format("no javac"), "1 passed, 0 failed", "a/test_a 9\n", says="\n1 skipped\n"),
     Runs("a skip for another reason", ONE + SKIPPED.format("it fails"), "1 passed, 1 failed", says="isn't known: it fails"),
     Runs("a command that is missing", ONE + "    @needs('nosuch')\n    def test_two(self): 1 // 0\n", "1 passed, 0 failed", says="a/test_a: 1 skipped: no nosuch\n"),
+    Runs("a skip whose reason only begins as a known one", ONE + SKIPPED.format("no time for it"), "1 passed, 1 failed", says="isn't known: no time"),
     Runs("no program", ONE + SKIPPED.format("no proved program"), "1 passed, 1 failed", says="--quick alone allows"),
     Runs("no program, and may be none", ONE + SKIPPED.format("no proved program"), "1 passed, 0 failed", words=["--quick"]),
     Runs("a word of a test", ONE + TWO, "1 passed, 0 failed", "a/test_a 2\n", ["-k", "two"]),
@@ -150,6 +154,13 @@ NO_ANSWER = "run=no-answer proved=no"
 COMMIT = "-c user.name=a -c user.email=a -c commit.gpgSign=false commit -q -m new"
 
 
+def edit_sum(at: str) -> None:
+    """Edits the sum of the sources in bin/."""
+    with open(f"{at}/{PROVED_WITH}", encoding="utf-8") as file:
+        text = file.read()
+    write(f"{at}/{PROVED_WITH}", re.sub("(?m)^(# sources .*).$", r"\1-", text))
+
+
 def change_sources(at: str) -> None:
     """Changes a source, and builds the same program."""
     write(f"{at}/crates.txt", "testkit:#\n")
@@ -180,15 +191,18 @@ def quick(name: str, counted: str, says: str = "", **how) -> Checks:
 CHECKS = [
     Checks("all pass", leaves=True),
     Checks("rt ci fails, .ci/run", "34 passed, 1 failed", words=(".ci/run",), ci='echo "2 passed, 1 failed"; exit 1'),
+    Checks("many fail", "33 passed, 12 failed", ci='echo "2 passed, 12 failed"; exit 1', gate='echo "29 passed, 0 failed"'),
     Checks("the runner does nothing", "32 passed, 1 failed", "gate/run was not counted: its status is 0", gate="exit 0"),
     Checks("nothing ran", "32 passed, 1 failed", "nothing passed", gate='echo "0 passed, 0 failed"'),
     Checks("a failure, and status 0", "34 passed, 2 failed", "its status is 0", gate='echo "2 passed, 1 failed"'),
+    Checks("none, and status 1", "62 passed, 1 failed", "its status is 1", gate=f"{GOOD}; exit 1"),
     Checks("a line after the count", "32 passed, 1 failed", "was not counted", gate=f"{GOOD}; echo a line >&2"),
     Checks("the runner is missing", "gate/run", before=lambda at: os.remove(f"{at}/gate/run")),
     Checks("no program", "30 passed, 1 failed", "there is no", before=lambda at: os.remove(f"{at}/{PROGRAM}")),
     Checks("./testkit says something else", "61 passed, 1 failed", testkit="echo 6"),
     Checks("./testkit has a line more", "61 passed, 1 failed", testkit=f"echo a line >&2; {ANSWERS}"),
     Checks("another program in bin/", "61 passed, 1 failed", f"bin/testkit-x86_64-linux is not {PROGRAM}; tools/keep_program renews", before=lambda at: write(f"{at}/{PROGRAM}", "#!/bin/sh\nexit 2;\n", 0o755)),
+    Checks("a sum that was edited", "61 passed, 1 failed", "bin/PROVED-WITH has another sum; tools/keep_program", before=edit_sum),
     Checks("sources that changed", "61 passed, 1 failed", "bin/PROVED-WITH has another sum", before=change_sources),
     Checks("no bin/", "61 passed, 0 failed", "there is no bin/", before=lambda at: shutil.rmtree(f"{at}/bin")),
     Checks("a program that is older than its sources", "61 passed, 1 failed", "that is newer than its sources", before=lambda at: write(f"{at}/crates.txt", "testkit:#\n")),
@@ -197,11 +211,13 @@ CHECKS = [
     Checks("no repository", says="not a git repository", before=lambda at: shutil.rmtree(f"{at}/.git")),
     quick("quick", "44 passed, 0 failed", "check: nothing is proved by this run"),
     quick("a test that fails", "37 passed, 7 failed", "1 failed", tries=told(*SECOND_FAILS, "run=stopped proved=no")),
+    quick("a crate with many tests", "37 passed, 70 failed", tries=told("tests: 11", "test a ... ok")),
     quick("slow tests", "44 passed, 0 failed", "test_runs: not tried: a::b::slow, which", before=name_slow, tries=f"grep -q slower src/a/b.rt && [ $(wc -l <src/a/b.rt) = 8 ] || exit 9; {TRIED}"),
     quick("a slow test that is none", "44 passed, 1 failed", "'test_runs a::b::fast', which names no test", before=lambda at: name_slow(at, "test_runs a::b::fast\n")),
     quick("a test without an end", "37 passed, 0 failed", "not tried: c had not", tries=told("tests: 2", "test a ... ok", *SLOW, NO_ANSWER)),
     quick("no test that ends", "30 passed, 7 failed", "nothing passed", tries=told("tests: 1", *SLOW, NO_ANSWER)),
     quick("a test of which nothing is said", "37 passed, 14 failed", "1 failed, and its status is 0", tries=told("tests: 2", "test a ... ok", status=0)),
+    quick("tests that pass, and status 1", "37 passed, 7 failed", "its status is 1", tries=told("tests: 1", "test a ... ok", "run=ended proved=no")),
     quick("crates that don't compile", "30 passed, 7 failed", "error", tries=told("error: no type")),
     quick("a module that fails", "16 passed, 1 failed", gate='[ "$1" = --quick ] && echo "2 passed, 1 failed"; exit 1'),
     Checks("a word that is none", "quickly", words=("check", "quickly")),
