@@ -1,4 +1,5 @@
 -- What clauses cite of engines, units and their runs.
+pub use Rattle.tk_engine_execute.specs.Faults.{IsFaultOfRun}
 pub use Rattle.tk_engine_execute.specs.Results.{IsTallied}
 pub use Rattle.tk_engine_runs.specs.Run.{IsRun}
 pub use Rattle.tk_engine_unit_events.specs.Refusals.{IsChildCause, IsPublishCause, child_start}

@@ -5,6 +5,7 @@ use Rattle.std.proofs.lemmas.List.Elements.{All-nil, All-push, All-weaker}
 use Rattle.std.proofs.lemmas.List.Quantifiers.{all_pairs_push}
 use Rattle.tk_base.proofs.Lists.{nil_from_length}
 use Rattle.atomic_table.specs.Seated.{TableId}
+use Rattle.tk_record.specs.Mixing.{IsWorkerOf}
 use Rattle.tk_engine_execute.specs.declared.event_collectors.EventCollector.{EventCollector}
 use Rattle.tk_engine_execute.specs.declared.worker_threads.Collected.{Collected}
 use Rattle.tk_engine_execute.specs.declared.workers.WorkerEnd.{WorkerEnd}
@@ -22,7 +23,7 @@ module _ (units : RunUnits) (session : TableId) where
   still_done : (m n : ℕ) (os : List WorkerEnd) → m ≤ n → AreDone units session m os → AreDone units session n os
   still_done m n os more done = record {
     each = done.each;
-    few = All-weaker (λ o. o.ended.worker ≤ m) (λ o. o.ended.worker ≤ n) (λ o few. omega (arith, few, more)) os done.few;
+    few = All-weaker (λ o. IsWorkerOf m o.ended.worker) (λ o. IsWorkerOf n o.ended.worker) (λ o few. (few.0, let low = few.1 in omega (arith, low, more))) os done.few;
     rising = done.rising;
   }
 
@@ -32,8 +33,8 @@ module _ (units : RunUnits) (session : TableId) where
       let own : o.ended.worker ≡ n = last.worker in
       let still = still_done m n os (omega (arith, more)) done in record {
         each = All-push IsOwn os o done.each (subst (λ w. IsDone units session w o) (sym own) last);
-        few = All-push (λ x. x.ended.worker ≤ n) os o still.few (omega (arith, own));
-        rising = all_pairs_push (λ a b. a.ended.worker < b.ended.worker) os o done.rising (λ k d within. let few = done.few k d within in omega (arith, few, more, own));
+        few = All-push (λ x. IsWorkerOf n x.ended.worker) os o still.few (omega (arith, own, more), omega (arith, own));
+        rising = all_pairs_push (λ a b. a.ended.worker < b.ended.worker) os o done.rising (λ k d within. let few = (done.few k d within).1 in omega (arith, few, more, own));
       }
 
 module _ (units : RunUnits) where

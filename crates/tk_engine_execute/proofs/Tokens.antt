@@ -27,11 +27,7 @@ use Rattle.tk_engine_execute.specs.steps.EventCollectors.{CanCollect, NoneIsAwai
 use Rattle.tk_engine_execute.specs.Results.{IsTallied}
 use Rattle.tk_queue_session.specs.Emission.{entries_by}
 use Rattle.tk_engine_runs.proofs.Workers.{in_the_middle}
-use Rattle.tk_engine_execute.specs.declared.run_faults.RunFault.{RunFault}
-use Rattle.tk_engine_execute.specs.declared.run_faults.RunFault.TheVariants as fault
 use Rattle.tk_engine_execute.specs.steps.Outcomes.{AllCompleted, NoneFailed, CanClose}
-use Rattle.tk_engine_execute.specs.steps.Outcomes.{IsFirstFailure, IsFaultOfWorkers}
-use Rattle.tk_engine_execute.specs.steps.Outcomes.{IsFaultOfRunning}
 use Rattle.tk_engine_execute.specs.steps.Workers.{RunUnits, AllDone, AreDone, IsDone}
 use Rattle.tk_engine_execute.proofs.Positions.{map_at, all_from}
 use Rattle.tk_engine_execute.proofs.Emitted.{emits_along}
@@ -201,30 +197,6 @@ tallied n closed es ls mix sent each others = record {
   each = λ w own. each w own ∙ ap (λ l. length l) (sym (mix.each w own));
   others = others;
 }
-
--- ---- why a run has no record
-
-module _ (units : RunUnits) (session : TableId) where
-  first_may_fail : (os : List WorkerEnd) (u : ℕ) (why : UnitFault) → All (λ o. IsDone units session o.ended.worker o) os → IsFirstFailure os u why → units.fails u why
-  first_may_fail [] u why all h = absurd h
-  first_may_fail (o ∷ os) u why all (inl is) = let one = (All-head (λ o. IsDone units session o.ended.worker o) o os all).failed in subst (λ (f : Option FailedUnit). IfSome f (λ g. units.fails g.unit g.why)) is one
-  first_may_fail (o ∷ os) u why all (inr h) = first_may_fail os u why (All-tail (λ o. IsDone units session o.ended.worker o) o os all) h.1
-
-  pub is_running : (workers : ℕ) (a : EventCollector) (os : List WorkerEnd) (f : RunFault) → AreDone units session workers os → IsFaultOfWorkers a os f → IsFaultOfRunning units.fails f
-  is_running workers a os fault.Workers done why = absurd why
-  is_running workers a os fault.Capacity done why = absurd why
-  is_running workers a os (fault.Engine unit cause) done why = first_may_fail os unit cause done.each why
-  is_running workers a os fault.Memory done why = tt
-  is_running workers a os fault.Threads done why = tt
-
-module _ (may_fail : ℕ → UnitFault → Type 0) where
-  -- memory was refused before a thread was started or after all were joined
-  pub out_of_memory : (f : RunFault) → f ≡ fault.Memory → IsFaultOfRunning may_fail f
-  out_of_memory f is = rw is tt
-
-  -- the unit of the answer may fail so
-  pub unit_may_fail : (f : RunFault) → IsFaultOfRunning may_fail f → (u : ℕ) (why : UnitFault) → f ≡ fault.Engine u why → may_fail u why
-  unit_may_fail f h u why is = subst (λ (r : RunFault). IsFaultOfRunning may_fail r) is h
 
 -- where each end has its token and its seat, none failed
 pub none_failed : (os : List WorkerEnd) (ts : List Sent) (ss : List ClaimSeatView) → AllCompleted os ts ss → NoneFailed os

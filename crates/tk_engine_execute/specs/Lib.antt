@@ -1,6 +1,7 @@
 pub use Rattle.tk_engine_runs.specs.Claims
 pub use Rattle.tk_engine_runs.specs.Run
 pub mod Engines
+pub mod Faults
 pub mod Grown
 pub mod Results
 pub mod Sinks

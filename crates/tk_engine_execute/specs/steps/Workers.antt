@@ -22,6 +22,7 @@ use Rattle.std.specs.List.{AllPairs}
 use Rattle.atomic_table.specs.Seated.{TableId}
 use Rattle.tk_ids.specs.declared.descriptors.Descriptor.{Descriptor}
 use Rattle.tk_events.specs.declared.events.Event.{Event}
+use Rattle.tk_record.specs.Mixing.{IsWorkerOf}
 use Rattle.tk_locks.specs.Books.{BookView, empty}
 use Rattle.tk_engine_runs.specs.Claims.{ClaimView, ClaimSeatView, fresh}
 use Rattle.tk_queue_session.specs.Senders.{SenderView, fresh_senders}
@@ -110,5 +111,5 @@ AllDone units session worker_ends =
 pub record AreDone (units : RunUnits) (session : TableId) (n : ℕ) (worker_ends : List WorkerEnd)
     : Type 0 where
   pub each : All (λ o. IsDone units session o.ended.worker o) worker_ends
-  pub few : All (λ o. o.ended.worker ≤ n) worker_ends
+  pub few : All (λ o. IsWorkerOf n o.ended.worker) worker_ends
   pub rising : AllPairs (λ a b. a.ended.worker < b.ended.worker) worker_ends

@@ -18,8 +18,10 @@ use Rattle.tk_engine_execute.specs.steps.PreparedRuns.{RunRequest, IsFreshCollec
 use Rattle.tk_engine_execute.proofs.ReceiverStates.{fresh_collector, room_left}
 use Rattle.tk_engine_execute.specs.Engines.{MayFail}
 use Rattle.tk_engine_execute.specs.steps.Workers.{run_units}
-use Rattle.tk_engine_execute.specs.steps.Outcomes.{IsFaultOfWorkers, IsFaultOfRunning}
-use Rattle.tk_engine_execute.proofs.Tokens.{is_running, out_of_memory, tallied_whole}
+use Rattle.tk_engine_execute.specs.Faults.{IsFaultOfRun}
+use Rattle.tk_engine_execute.specs.steps.Outcomes.{IsFaultOfWorkers}
+use Rattle.tk_engine_execute.proofs.Faults.{is_fault, out_of_memory}
+use Rattle.tk_engine_execute.proofs.Tokens.{tallied_whole}
 use Rattle.tk_engine_execute.proofs.runs.run.Goals as goal
 
 -- the record of a new collector that took some items
@@ -105,19 +107,19 @@ pub returns-in_err-start : goal.returns-in_err-start
 returns-in_err-start g c =
     let p = err_from_is_err_and c.from_residual.result c.from_residual.ensures.1 in
     let may_fail = MayFail (g.E.Engine.units c.args.engine.now) (g.E.Engine.fails c.args.engine.now) in
-    rw (p.1, p.2) (record { run = tt; tally = tt; of_capacity = tt; running = out_of_memory may_fail c.in_err-start.field-0.0 c.in_err-start.ensures.memory })
+    rw (p.1, p.2) (record { run = tt; tally = tt; of_capacity = tt; fault = out_of_memory c.args.workers may_fail c.in_err-start.field-0.0 c.in_err-start.ensures.memory })
 
-pub returns-clause-running : goal.returns-clause-running
-returns-clause-running g c =
+pub returns-clause-fault : goal.returns-clause-fault
+returns-clause-fault g c =
     let many = g.E.Engine.units c.args.engine.now in
     let fails = g.E.Engine.fails c.args.engine.now in
     let units = run_units c.in_ok-start.start.claim (g.E.Engine.may c.args.engine.now) many fails in
     let workers = c.in_ok-start.ensures.start.many in
     let collected = c.run_workers-collected.result in
     let session = c.run_workers-collected.ensures.took_more.session in
-    let running = is_running units collected.collector.receiver.session c.args.workers collected.collector collected.worker_ends.items in
-    IfErr-weaker c.finish.result (IsFaultOfWorkers collected.collector collected.worker_ends.items) (IsFaultOfRunning (MayFail many fails))
-    (λ f why. running f (rw (sym workers, session) c.run_workers-collected.ensures.each) why) c.finish.ensures.fault
+    let is = is_fault c.args.workers units collected.collector.receiver.session collected.collector collected.worker_ends.items in
+    IfErr-weaker c.finish.result (IsFaultOfWorkers collected.collector collected.worker_ends.items) (IsFaultOfRun c.args.workers (MayFail many fails))
+    (λ f why. is f (rw (sym workers, session) c.run_workers-collected.ensures.each) why) c.finish.ensures.fault
 
 pub returns-clause-of_capacity : goal.returns-clause-of_capacity
 returns-clause-of_capacity g c =
