@@ -7,3 +7,4 @@ pub mod ReceiverStates
 pub mod Tokens
 pub mod SinkGrowth
 pub mod Faults
+pub mod FailedRuns

@@ -1,16 +1,18 @@
 -- What the workers of a run have left, worker by worker.
-use Rattle.std.proofs.Common.{◌≡◌, ℕ, ◌+◌, ◌<◌, ◌≤◌, true, false, List, [], ◌∷◌, ◌++◌, length, length-append, ap, subst, sym, ◌∙◌, arith, rules}
+use Rattle.std.proofs.Common.{◌≡◌, ℕ, ◌+◌, ◌<◌, ◌≤◌, Bool, true, false, List, [], ◌∷◌, ◌++◌, length, length-append, ap, subst, sym, refl, ◌∙◌, arith, rules}
 use Rattle.std.specs.Prelude.{vec_len}
 use Rattle.std.proofs.lemmas.List.Elements.{All-nil, All-push, All-weaker}
 use Rattle.std.proofs.lemmas.List.Quantifiers.{all_pairs_push}
 use Rattle.tk_base.proofs.Lists.{nil_from_length}
 use Rattle.atomic_table.specs.Seated.{TableId}
 use Rattle.tk_record.specs.Mixing.{IsWorkerOf}
+use Rattle.tk_queue_session.specs.Receivers.{ReceiverView}
 use Rattle.tk_engine_execute.specs.declared.event_collectors.EventCollector.{EventCollector}
 use Rattle.tk_engine_execute.specs.declared.worker_threads.Collected.{Collected}
 use Rattle.tk_engine_execute.specs.declared.workers.WorkerEnd.{WorkerEnd}
 use Rattle.tk_engine_execute.specs.steps.EventCollectors.{TookMore, CanCollect, NoneIsAwaited}
-use Rattle.tk_engine_execute.specs.steps.WorkerThreads.{WorkersWereRun}
+use Rattle.tk_engine_execute.specs.steps.PreparedRuns.{RunRequest, IsFreshCollector}
+use Rattle.tk_engine_execute.specs.steps.WorkerThreads.{WorkersWereRun, IsCollected}
 use Rattle.tk_engine_execute.specs.steps.Workers.{RunUnits, IsDone, AreDone}
 use Rattle.tk_engine_execute.proofs.Positions.{snoc_all}
 use Rattle.tk_engine_execute.proofs.ReceiverStates.{took_more-trans}
@@ -86,3 +88,23 @@ module _ (units : RunUnits) where
         count = λ going. absurd (not_going going);
         done = λ going. absurd (not_going going);
       }
+
+-- what a run's end is made of
+pub is_collected : (units : RunUnits) (n : ℕ) (asked : RunRequest) (old new : Collected) (many : ℕ) → 0 < n → asked.workers ≡ n → IsFreshCollector asked old.collector → many ≡ n → WorkersWereRun units many old new → IsCollected units n new
+is_collected units n asked old new many some workers fresh many_is was =
+    let long : length new.worker_ends.items ≡ vec_len new.worker_ends = sym (new.worker_ends.ok.0) in
+    record {
+      some = some;
+      workers = was.took_more.workers ∙ ap (λ (r : ReceiverView). r.workers) fresh.receiver ∙ workers;
+      width = was.took_more.width ∙ fresh.width ∙ workers;
+      collector = was.collector;
+      none_is_awaited = was.none_is_awaited;
+      each = rw (sym many_is, was.took_more.session) was.each;
+      few = few new.collector.lacks_thread refl;
+      count = λ going. long ∙ was.count going ∙ many_is;
+      done = λ going. rw was.took_more.session (was.done going);
+    }
+  where
+    few : (lacks : Bool) → new.collector.lacks_thread ≡ lacks → length new.worker_ends.items ≤ n
+    few false is = (let all = was.count is in let same = new.worker_ends.ok.0 in omega (arith, all, same, many_is))
+    few true is = (let some = was.lacks_thread fresh.started is in let same = new.worker_ends.ok.0 in omega (arith, some, same, many_is))

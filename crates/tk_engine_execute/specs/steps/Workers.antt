@@ -28,6 +28,7 @@ use Rattle.tk_engine_runs.specs.Claims.{ClaimView, ClaimSeatView, fresh}
 use Rattle.tk_queue_session.specs.Senders.{SenderView, fresh_senders}
 use Rattle.tk_engine_runs.specs.Run.{Emits}
 use Rattle.tk_engine_execute.specs.Engines.{MayFail}
+use Rattle.tk_engine_execute.specs.Work.{StoppedAt}
 use Rattle.tk_engine_execute.specs.declared.engines.UnitFault.{UnitFault}
 use Rattle.tk_engine_execute.specs.declared.workers.WorkerHandles.{WorkerHandles}
 use Rattle.tk_engine_execute.specs.declared.workers.WorkerEnd.{WorkerEnd}
@@ -63,17 +64,11 @@ pub record IsReady (shared : SharedParts) (h : WorkerHandles) : Type 0 where
   pub book_is : h.book_seat.book ≡ shared.book
   pub holds : h.book_seat.holds ≡ None
 
--- A unit is the last that a worker drew, and the worker has not found that there are no more. The
--- units before it emitted a prefix of what the worker emitted.
+-- A worker stopped at a unit that failed, and has not found that there are no more.
 pub record IsStopped (may : ℕ → ℕ → ℕ → List Event → Type 0) (sender : SenderView)
     (seat : ClaimSeatView) (unit : ℕ) : Type 0 where
-  pub earlier : List ℕ
-  pub prefix : List Event
-  pub more : List Event
-  pub drawn : seat.numbers ≡ earlier ++ unit ∷ []
   pub unspent : seat.spent ≡ false
-  pub emitted : sender.sent ≡ prefix ++ more
-  pub emits : Emits may sender.worker 0 earlier prefix
+  pub stopped : StoppedAt may sender.worker seat.numbers sender.sent unit
 
 -- What worker w has left: its token, its seat, and where no unit failed, the list that the units
 -- that it drew may emit. A unit that failed is one that may fail so, and the worker stopped at it.
