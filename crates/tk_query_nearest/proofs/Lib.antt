@@ -1,7 +1,10 @@
+pub mod AspectLemmas
 pub mod ElementLemmas
 pub mod MemberLemmas
 pub mod PartLemmas
 pub mod HoldingLemmas
+pub mod KnownLemmas
+pub mod GroupLemmas
 pub mod WritingLemmas
 pub mod TakenLemmas
 pub mod ViewLemmas

@@ -1,7 +1,10 @@
 //! How near events come to a condition, and which of its members don't hold of them.
 #![tactic(auto)]
 
+mod aspects;
 mod candidates;
+mod groups;
+mod known;
 mod lacking;
 pub mod laws;
 mod parts;

@@ -1,5 +1,5 @@
 //! How many parts of a condition don't hold of an event.
-ghost use Rattle.std.specs.Prelude.{◌≡◌, ◌≤◌, ◌+◌, min, not, if◌then◌else◌, bytes_eq, count_by, length, slice_get, MatchOption};
+ghost use Rattle.std.specs.Prelude.{◌≡◌, ◌≤◌, ◌+◌, min, not, if◌then◌else◌, bytes_eq, count_by, length};
 ghost use Rattle.std.specs.List.{list_any};
 ghost use Rattle.tk_record.specs.Entries.{of_kind, of_status, desc};
 ghost use Rattle.tk_record.specs.Record.{entry_of_view};
@@ -161,7 +161,12 @@ fn missing_of_member(record: &Record, member: &Condition, event: &EntryView) -> 
 
 /// How many parts of a condition don't hold of an event of a record, counted up to `most`.
 #[cycle(distances)]
-fn distance_up_to(record: &Record, condition: &Condition, event: &EntryView, most: usize) -> usize
+pub(crate) fn distance_up_to(
+    record: &Record,
+    condition: &Condition,
+    event: &EntryView,
+    most: usize,
+) -> usize
     ensures { result
         ≡ min (missing «record».now (cond_of condition.now) (entry_of_view event.now)) most }
 {
@@ -210,21 +215,4 @@ pub fn distance(record: &Record, condition: &Condition, event: &EntryView) -> us
     ensures { result ≡ distance «record».now (cond_of condition.now) (entry_of_view event.now) }
 {
     distance_up_to(record, condition, event, MAX_DISTANCE)
-}
-
-/// How many parts of a condition don't hold of the entry at a position, counted up to `most`; 0
-/// past the last one.
-pub(crate) fn distance_at(
-    record: &Record,
-    condition: &Condition,
-    position: usize,
-    most: usize,
-) -> usize
-    ensures { MatchOption (slice_get «record».now.entries position) (result ≡ 0) (λ e.
-        result ≡ min (distance «record».now (cond_of condition.now) e) most) }
-{
-    match record.entry(position) {
-        Some(event) => distance_up_to(record, condition, &event, most),
-        None => 0,
-    }
 }
