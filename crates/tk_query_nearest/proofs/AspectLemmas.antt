@@ -60,11 +60,11 @@ narrow false true t u true false jt ju c n d m class hk hy ht hu f g = absurd (t
 narrow false true t u false false jt ju c n d m class hk hy ht hu f g = absurd (true≢false (sym (hy refl)))
 narrow false true t u false true jt ju c n d m class hk hy ht hu f g = (class, f, g)
 
-left_false : (a b : Bool) → a || b ≡ false → a ≡ false
+left_false : (a b : Bool) → (a || b) ≡ false → a ≡ false
 left_false true b h = h
 left_false false b h = refl
 
-right_false : (a b : Bool) → a || b ≡ false → b ≡ false
+right_false : (a b : Bool) → (a || b) ≡ false → b ≡ false
 right_false true b h = absurd (true≢false h)
 right_false false b h = h
 
@@ -95,7 +95,7 @@ module _ (a b : Aspects) (e f : Entry) (one : IsOneClass (joined a b) e f) where
       (kind_class e) e.event.key (kind_class f) f.event.key one.class
       (λ h. or_left a.kind b.kind h) (λ h. or_left a.key b.key h)
       (text_left a b e.event.payload) (text_left a b f.event.payload) one.first one.second in
-      record { class = found.0; first = found.1.0; second = found.1.1 }
+      record { class = found.0; first = found.1; second = found.2 }
 
   joined_right : IsOneClass b e f
   joined_right =
@@ -104,7 +104,7 @@ module _ (a b : Aspects) (e f : Entry) (one : IsOneClass (joined a b) e f) where
       (kind_class e) e.event.key (kind_class f) f.event.key one.class
       (λ h. or_right a.kind b.kind h) (λ h. or_right a.key b.key h)
       (text_right a b e.event.payload) (text_right a b f.event.payload) one.first one.second in
-      record { class = found.0; first = found.1.0; second = found.1.1 }
+      record { class = found.0; first = found.1; second = found.2 }
 
 -- the kind and the status that both events have
 record Alike (e f : Entry) : Type 0 where
@@ -200,7 +200,7 @@ without_report named (payload.Report pairs) h = absurd (true≢false h)
 without_report named (payload.Described d) h = refl
 without_report named (payload.Path given) h = refl
 
-both_alike : (a b c d : Bool) → a ≡ c → b ≡ d → a && b ≡ c && d
+both_alike : (a b c d : Bool) → a ≡ c → b ≡ d → (a && b) ≡ (c && d)
 both_alike a b c d f g = ap (λ x. x && b) f ∙ ap (λ x. c && x) g
 
 same_truth : (a b : Bool) → (a ≡ true → b ≡ true) → (b ≡ true → a ≡ true) → a ≡ b
@@ -270,13 +270,13 @@ module _ (r : Recorded) (e f : Entry) where
 
   finished_with : (s : Status) (plain m : Cond) (text : List ℕ) → IsOneClass (text_atom_aspects Message) e f
       → ((x : Entry) → cond_holds r plain x ≡ of_status s x)
-      → ((x : Entry) → cond_holds r m x ≡ of_status s x && has_message text x.event.payload)
+      → ((x : Entry) → cond_holds r m x ≡ (of_status s x && has_message text x.event.payload))
       → missing_parts r (IsKind kind.Finished ∷ Meets plain ∷ MessageContains text ∷ Meets m ∷ []) e
       ≡ missing_parts r (IsKind kind.Finished ∷ Meets plain ∷ MessageContains text ∷ Meets m ∷ []) f
   finished_with s plain m text one is_plain is_with =
       let same = shared (text_atom_aspects Message) one.class one.first one.second in
-      let g = without_message text e.event.payload same.1.0 in
-      let h = without_message text f.event.payload same.1.1 in
+      let g = without_message text e.event.payload same.1 in
+      let h = without_message text f.event.payload same.2 in
       let so = status_alike e f s same.0 in
       parts_alike (IsKind kind.Finished) (Meets plain ∷ MessageContains text ∷ Meets m ∷ []) (kind_alike e f kind.Finished same.0)
       (parts_alike (Meets plain) (MessageContains text ∷ Meets m ∷ []) (is_plain e ∙ so ∙ sym (is_plain f))
@@ -302,8 +302,8 @@ mutual
       (own r e f (With Name text) (ap (λ k. has_descriptor (λ d. bytes_eq d.name text) (desc r k)) same))
   decide (With Skipped text) r e f one =
       let same = shared r e f (text_atom_aspects Skipped) one.class one.first one.second in
-      let g = without_reason text e.event.payload same.1.0 in
-      let h = without_reason text f.event.payload same.1.1 in
+      let g = without_reason text e.event.payload same.1 in
+      let h = without_reason text f.event.payload same.2 in
       let kinds = kind_alike e f kind.Skipped same.0 in
       parts_alike r e f (IsKind kind.Skipped) (ReasonContains text ∷ Meets (With Skipped text) ∷ []) kinds
       (parts_alike r e f (ReasonContains text) (Meets (With Skipped text) ∷ []) (g.0 ∙ sym h.0)
@@ -312,15 +312,15 @@ mutual
   decide (With AbortedWith text) r e f one = finished_with r e f status.Aborted (Plain Aborted) (With AbortedWith text) text one (λ x. refl) (λ x. refl)
   decide (With Message text) r e f one =
       let same = shared r e f (text_atom_aspects Message) one.class one.first one.second in
-      let g = without_message text e.event.payload same.1.0 in
-      let h = without_message text f.event.payload same.1.1 in
+      let g = without_message text e.event.payload same.1 in
+      let h = without_message text f.event.payload same.2 in
       let kinds = kind_alike e f kind.Finished same.0 in
       kind_and_own r e f kind.Finished (With Message text) kinds
       (both_alike (of_kind kind.Finished e) (message_contains text e.event.payload) (of_kind kind.Finished f) (message_contains text f.event.payload) kinds (g.0 ∙ sym h.0))
   decide (With File text) r e f one =
       let same = shared r e f (text_atom_aspects File) one.class one.first one.second in
-      let g = without_path text e.event.payload same.1.0 in
-      let h = without_path text f.event.payload same.1.1 in
+      let g = without_path text e.event.payload same.1 in
+      let h = without_path text f.event.payload same.2 in
       let kinds = kind_alike e f kind.File same.0 in
       parts_alike r e f (IsKind kind.File) (PathContains text ∷ Meets (With File text) ∷ []) kinds
       (parts_alike r e f (PathContains text) (Meets (With File text) ∷ []) (g.0 ∙ sym h.0)
@@ -332,9 +332,9 @@ mutual
       let kinds = kind_alike e f kind.Reporting same.0 in
       let list = pairs_list pairs in
       parts_alike r e f (IsKind kind.Reporting) (map (λ (pair : List ℕ × List ℕ). HasKey pair.0) list ++ Meets (HasPairs pairs) ∷ []) kinds
-      (keys_alike r e f list (Meets (HasPairs pairs) ∷ []) same.1.0 same.1.1
+      (keys_alike r e f list (Meets (HasPairs pairs) ∷ []) same.1 same.2
       (own r e f (HasPairs pairs) (both_alike (of_kind kind.Reporting e) (reports list e.event.payload) (of_kind kind.Reporting f) (reports list f.event.payload) kinds
-      (without_report list e.event.payload same.1.0 ∙ sym (without_report list f.event.payload same.1.1)))))
+      (without_report list e.event.payload same.1 ∙ sym (without_report list f.event.payload same.2)))))
   decide (All cs) r e f one = decide_all cs r e f one
   decide (Any cs) r e f one = decide_any cs r e f one
   decide (Not c) r e f one = own r e f (Not c) (ap not (holds_alike r e f c (decide c r e f one)))

@@ -2,7 +2,7 @@
 use Rattle.std.proofs.Common.{◌≡◌, ℕ, zero, suc, ◌+◌, ◌-◌, ◌*◌, ◌<◌, ◌≤◌, min, List, [], ◌∷◌, ◌++◌, length, take, get_or, set, ⊎_elim, Option, Some, None, refl, sym, ap, ◌∙◌, subst, arith}
 use Rattle.std.specs.Prelude.{All, sum_by}
 use Rattle.std.proofs.lemmas.Bool.{cases_lt}
-use Rattle.std.proofs.Math.Nat.{le-mul_of_pos_right, mul_comm}
+use Rattle.std.proofs.Math.Nat.{le-mul_of_pos_right, mul_comm, suc-mul}
 use Rattle.std.proofs.lemmas.List.{take_all}
 use Rattle.std.proofs.lemmas.List.Elements.{All-head, All-tail}
 use Rattle.std.proofs.lemmas.List.Sums.{sum_by-cons, sum_by-set, sum_by_push, sum_by_more, sum_by-take-le}
@@ -39,11 +39,11 @@ weighed x w room once new f g le = ⊎_elim {C = new ≡ min (w * x) room} above
       where
         by_times : (v : ℕ) → w ≡ v → new ≡ min (w * x) room
         by_times zero none =
-            let a : once * w ≡ 0 = ap (λ n. once * n) none ∙ mul_comm once 0 in
-            let b : w * x ≡ 0 = ap (λ n. n * x) none in
+            let a : once * w ≡ 0 = ap (λ n. once * n) none ∙ omega arith in
+            let b : w * x ≡ 0 = ap (λ n. n * x) none ∙ omega arith in
             omega (arith, a, b)
         by_times (suc v) some =
-            let positive : zero < w = omega arith in
+            let positive : zero < w = omega (arith, some) in
             let a : room ≤ room * w = le-mul_of_pos_right room positive in
             let b : x ≤ x * w = le-mul_of_pos_right x positive in
             let same : once ≡ room = omega arith in
@@ -63,7 +63,7 @@ module _ (r : Recorded) (e : Entry) where
       let more = sum_by_more weight members at m lt in
       let this = ap weight is in
       let counted = weighed (missing r (cond_of_member m) e) m.times (most - total) once new g h (omega arith) in
-      added (total_of r (take at members) e) (weight m) (weight (get_or members at m)) (total_of r (take (at + 1) members) e) counted more this
+      added (total_of r (take at members) e) (weight m) (weight (get_or members at m)) (total_of r (take (at + 1) members) e) counted more this f
     where
       added : (t n k all : ℕ) → new ≡ min n (most - total) → all ≡ t + k → n ≡ k → total ≡ min t most → total + new ≡ min all most
       added t n k all a b c d = omega arith
@@ -72,10 +72,10 @@ module _ (r : Recorded) (e : Entry) where
       → most ≡ min (total_of r members e) most
   total_full members at total most f full =
       let le = sum_by-take-le weight members at in
-      capped (total_of r (take at members) e) (total_of r members e) le
+      capped (total_of r (take at members) e) (total_of r members e) le f full
     where
-      capped : (m n : ℕ) → m ≤ n → total ≡ min m most → most ≡ min n most
-      capped m n le g = omega arith
+      capped : (m n : ℕ) → m ≤ n → total ≡ min m most → total ≡ most → most ≡ min n most
+      capped m n le f full = omega arith
 
   pub total_all : (members : List Member) (at total most : ℕ) → length members ≤ at → total ≡ min (total_of r (take at members) e) most
       → total ≡ min (total_of r members e) most
@@ -104,7 +104,9 @@ module _ (r : Recorded) (e : Entry) where
       omega (arith, sum, old, more, one)
     where
       one_more : (t n : ℕ) → (t + 1) * n ≡ t * n + n
-      one_more t n = omega arith
+      one_more t n =
+          let e : t + 1 ≡ suc t = omega arith in
+          ap (λ k. k * n) e ∙ suc-mul t n
 
 -- a group's members are counted alike of two events of one class
 pub alike_of : (r : Recorded) (a : Aspects) (members : List Member) (e f : Entry) → All (IsMemberOf a) members → IsOneClass a e f

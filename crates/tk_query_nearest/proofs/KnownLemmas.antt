@@ -14,6 +14,11 @@ padded (x ∷ xs) d (suc i) = padded xs d i
 abbrev Slots : Type 0
 Slots = List (Option (ℕ × ℕ))
 
+same_pair : (p q : ℕ × ℕ) → Some p ≡ Some q → (q.0 ≡ p.0) × (q.1 ≡ p.1)
+same_pair p q e =
+    let same = same_Some p q e in
+    (sym (ap (λ (x : ℕ × ℕ). x.0) same), sym (ap (λ (x : ℕ × ℕ). x.1) same))
+
 -- nothing stands in no slot
 pub none_in_slot : (slots : Slots) → slots ≡ [] → (i : ℕ) (pair : ℕ × ℕ) → get_or slots i None ≡ Some pair → ⊥
 none_in_slot slots empty i pair is = none-some pair (sym (ap (λ l. get_or l i None) empty) ∙ is)
@@ -32,12 +37,10 @@ put_in_slot old new slots slot class number same within is i c n has = by_slot (
     by_slot : (b : Bool) → eqb i slot ≡ b → (get_or old i None ≡ Some (c, n)) ⊎ ((c ≡ class) × (n ≡ number))
     by_slot true e =
         let here = eqb-true i slot e in
-        let pair : (class, number) ≡ (c, n) =
-        same_Some (class, number) (c, n)
+        inr (same_pair (class, number) (c, n)
         (sym (ap (λ k. get_or (set slots slot (Some (class, number))) k None) here
-        ∙ get_or-set_same slots slot (Some (class, number)) None within) ∙ read) in
-        inr (sym (ap (λ (p : ℕ × ℕ). p.0) pair), sym (ap (λ (p : ℕ × ℕ). p.1) pair))
+        ∙ get_or-set_same slots slot (Some (class, number)) None within) ∙ read))
     by_slot false e =
         inl (sym (same i)
-        ∙ sym (get_or-set_other slots i slot (Some (class, number)) None (λ h. true≢false (sym (eq-eqb i slot h) ∙ e)))
+        ∙ sym (get_or-set_other slots slot i (Some (class, number)) None (λ h. true≢false (sym (eq-eqb i slot h) ∙ e)))
         ∙ read)
