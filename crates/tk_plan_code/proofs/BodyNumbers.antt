@@ -2,13 +2,16 @@
 use Rattle.std.proofs.Common.{◌≡◌, ℕ, List, [], ◌∷◌, ◌++◌, Option, sym, ap, ◌∙◌, append_assoc}
 use Rattle.std.specs.List.{flat_map}
 use Rattle.std.proofs.lemmas.List.Folds.{flat_map-map}
-use Rattle.tk_plan_code.specs.Bodies.{layer_list, bodies_of}
+use Rattle.tk_plan_code.specs.Bodies.{layer_list, bodies_of, names_of}
 use Rattle.tk_plan_code.specs.NodeViews.{node_view}
 use Rattle.tk_plan_code.specs.declared.plan_nodes.PlanNode.{PlanNode}
 use Rattle.tk_plan_code.specs.declared.plan_nodes.PlanNode.TheFolds.{fold_out-PlanNode}
 
 bodies_of_node : (n : PlanNode) → bodies_of n ≡ (node_view n).body ∷ flat_map bodies_of (node_view n).children
 bodies_of_node n = fold_out-PlanNode _ (layer_list (λ l. l.body)) n ∙ ap (λ bs. (node_view n).body ∷ bs) (flat_map-map (λ bs. bs) bodies_of (node_view n).children)
+
+pub names_of_node : (n : PlanNode) → names_of n ≡ (node_view n).name ∷ flat_map names_of (node_view n).children
+names_of_node n = fold_out-PlanNode _ (layer_list (λ l. l.name)) n ∙ ap (λ ns. (node_view n).name ∷ ns) (flat_map-map (λ ns. ns) names_of (node_view n).children)
 
 -- after other numbers, a node's own and those below it
 pub own_then_below : (ns : List (Option ℕ)) (n : PlanNode) → (ns ++ (node_view n).body ∷ []) ++ flat_map bodies_of (node_view n).children ≡ ns ++ bodies_of n

@@ -1,4 +1,4 @@
--- The static nodes of a tree in preorder, with the numbers of their bodies.
+-- The static nodes of a tree in preorder: the numbers of their bodies, and their names.
 use Rattle.std.specs.Prelude.{ℕ, List, ◌∷◌, Option, None, flat_map, get_or}
 use Rattle.tk_plan_code.specs.declared.plan_nodes.PlanNode.{PlanNode}
 use Rattle.tk_plan_code.specs.declared.plan_nodes.PlanNode.TheOpen.{PlanNode-F}
@@ -16,6 +16,10 @@ in_preorder {A} value = fold-PlanNode (List A) (layer_list value)
 -- the number of each static node's body, if it has one, in the order of the keys
 abbrev pub bodies_of : PlanNode → List (Option ℕ)
 bodies_of = in_preorder (λ n. n.body)
+
+-- the name of each static node, in the same order
+abbrev pub names_of : PlanNode → List (List ℕ)
+names_of = in_preorder (λ n. n.name)
 
 -- the number of the static node with this key
 abbrev pub body_at : List (Option ℕ) → ℕ → Option ℕ

@@ -14,7 +14,7 @@ use Rattle.tk_plan_json_members.specs.declared.faults.PlanFault.{PlanFault}
 use Rattle.tk_plan_json_members.specs.declared.faults.PlanFault.TheVariants.{Json, Field, Id, Table, TooManyResources, EntryKeyTwice, TooManyEvents, Deep, Memory}
 use Rattle.tk_plan_json.proofs.Distinct.{apart_grown, distinct_in, are_distinct}
 
-no_fault_in : (o : Option PlanFault) (t u : Tree) → ok_unless o t ≡ Ok u → (o ≡ None) × (t ≡ u)
+pub no_fault_in : (o : Option PlanFault) (t u : Tree) → ok_unless o t ≡ Ok u → (o ≡ None) × (t ≡ u)
 no_fault_in None t u e = (refl, cc)
 no_fault_in (Some f) t u e = cc
 

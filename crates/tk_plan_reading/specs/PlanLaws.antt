@@ -1,9 +1,12 @@
 -- What holds of plans alone.
-use Rattle.std.specs.Prelude.{◌≡◌, ◌≢◌, ℕ, List, [], Result, Ok, Err}
+use Rattle.std.specs.Prelude.{◌≡◌, ◌≢◌, ℕ, List, [], map, Result, Ok, Err}
 use Rattle.serde_json.specs.Data.{Data}
 use Rattle.tk_plan.specs.Trees.{Tree}
-use Rattle.tk_plan.specs.Ids.{ids, AreDistinct}
+use Rattle.tk_plan.specs.Ids.{ids, descriptors, AreDistinct}
 use Rattle.tk_plan.specs.Planned.{Outline}
+use Rattle.tk_plan_code.specs.Bodies.{names_of}
+use Rattle.tk_plan_code.specs.NodeJson.{plan_data}
+use Rattle.tk_plan_code.specs.declared.plan_nodes.PlanNode.{PlanNode}
 use Rattle.tk_plan_reading.specs.PlanAnswers.{plan_in, Answered}
 use Rattle.tk_plan_reading.specs.PlanOf.{PlanOf}
 use Rattle.tk_plan_json_members.specs.declared.faults.PlanFault.{PlanFault}
@@ -12,6 +15,13 @@ use Rattle.tk_plan_json_members.specs.declared.faults.PlanFault.TheVariants.{Mem
 -- no id of a plan's tree stands at two places
 abbrev pub IdsDiffer : Type 0
 IdsDiffer = (v : Data) (t : Tree) → PlanOf v ≡ Ok t → AreDistinct (ids [] t)
+
+-- the static nodes of a tree in code have the keys of its plan in preorder: the descriptors have
+-- their names
+abbrev pub KeysAreInPreorder : Type 0
+KeysAreInPreorder =
+    (root : PlanNode) (t : Tree) → PlanOf (plan_data root) ≡ Ok t
+    → map (λ d. d.name) (descriptors [] t) ≡ names_of root
 
 -- bytes have one answer, where memory doesn't run out
 abbrev pub AnswerIsUnique : Type 0
