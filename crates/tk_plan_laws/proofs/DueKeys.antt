@@ -8,26 +8,24 @@ use Rattle.tk_ids.specs.IdText.{IsBelow, SegmentView, parent_of}
 use Rattle.tk_ids.specs.Table.{ids_of}
 use Rattle.tk_ids.specs.declared.descriptors.Descriptor.{Descriptor}
 use Rattle.tk_events.specs.declared.kinds.Kind.TheVariants.{Finished, Skipped, Started}
-use Rattle.tk_events.specs.declared.events.Entry.{Entry}
 use Rattle.tk_record.specs.Recorded.{Recorded}
-use Rattle.std.specs.Option.{option_or}
-use Rattle.tk_record.specs.Entries.{desc_in}
+use Rattle.tk_query_lifecycle.proofs.IdMapLemmas.{static_desc}
+use Rattle.tk_query_lifecycle.specs.Lifecycle.{HasId}
 use Rattle.tk_query_lifecycle.specs.NeverRan.{EachDueKeyRuns, NeverRuns, ParentSucceeds}
 use Rattle.tk_plan.specs.declared.trees.nodes.NumberedNode.{NumberedNode}
 use Rattle.tk_plan.specs.declared.scripts.steps.Act.TheVariants.{Register, Skip, Start}
-use Rattle.tk_report_text.specs.Labels.{Label, events, id_in, label, labels, name, same_id, same_kind}
+use Rattle.tk_report_text.specs.Labels.{Label, id_in, label, labels, name, same_id, same_kind}
 use Rattle.tk_report_text.proofs.Ids.{same_decides}
-use Rattle.tk_plan_laws.specs.Listening.{IsOnce, finishes, is_of, is_ran, skips, starts}
+use Rattle.tk_plan_laws.specs.Listening.{IsOnce, finishes, is_of, skips, starts}
 use Rattle.tk_plan_laws.specs.Scripts.{IsRunOf}
-use Rattle.tk_plan_laws.proofs.ByKey.{map_get}
-use Rattle.tk_plan_laws.proofs.RecordLifecycle.{label_at, labelled, last_segment}
-use Rattle.tk_plan_laws.proofs.ListenerSteps.{any_one, any_two, finish_or, listener_law, once, ran_of, same_one, skip_ran, start_or_skip}
-use Rattle.tk_plan_laws.proofs.Lists.{each-append, each_at}
+use Rattle.tk_plan_laws.proofs.RecordIds.{label_at, labelled, last_segment}
+use Rattle.tk_plan_laws.proofs.RecordLifecycle.{run_described, run_one_key}
+use Rattle.tk_plan_laws.proofs.ListenerSteps.{any_one, any_two, finish_or, finish_ran, listener_law, once, ran_of, same_one, skip_ran, start_or_skip}
+use Rattle.tk_plan_laws.proofs.Lists.{each-append, each_at, each_weaker}
 use Rattle.tk_plan_laws.proofs.Model.{AreBuilt, Each, Forest, IsBuilt, Item, Models, Step, Tree, finish, item_label, more, no_trees, nodes, nodes_below, opening, performed, plan_labels, step, step_label, steps, steps_below, tree}
-use Rattle.tk_plan_laws.proofs.OneKey.{Comes, HasKey, all_keys, from_table, same_key}
 use Rattle.tk_plan_laws.proofs.Orders.{Only, any_kept}
-use Rattle.tk_plan_laws.proofs.Positions.{any_at, any_from}
-use Rattle.tk_plan_laws.proofs.Scripts.{snoc_same}
+use Rattle.tk_plan_laws.proofs.Positions.{any_at, any_from, map_get}
+use Rattle.tk_plan_laws.proofs.Scripts.{snoc_same, snoc_some}
 use Rattle.tk_plan_laws.proofs.Turns.{finish_of}
 
 -- ---- labels that start or skip an id, or skip one above it
@@ -58,15 +56,7 @@ covered_right : (xs ys : List Label) (i : List SegmentView) → IsCovered ys i �
 covered_right xs ys i (inl h) = inl (any_right (begins i) xs ys h)
 covered_right xs ys i (inr u) = inr (record { above = u.above; some = u.some; skipped = any_right (skips u.above) xs ys u.skipped; below = u.below })
 
-each_weaker : {A : Type 0} (P Q : A → Type 0) → ((x : A) → P x → Q x) → (xs : List A) → Each P xs → Each Q xs
-each_weaker P Q f [] h = tt
-each_weaker P Q f (x ∷ xs) h = (f x h.0, each_weaker P Q f xs h.1)
-
 -- ---- the nodes of a tree stand below what is above it
-
-snoc_some : (a : List SegmentView) (s : SegmentView) → a ++ s ∷ [] ≢ []
-snoc_some [] s e = cc
-snoc_some (x ∷ a) s e = cc
 
 deeper : (a i j : List SegmentView) (s : SegmentView) → i ≡ a ++ s ∷ [] → IsBelow i j → IsBelow a j
 deeper a i j s e b = (s, b.0 ∷ b.1, b.2 ∙ ap (λ l. l ++ b.0 ∷ b.1) e ∙ append_assoc a (s ∷ []) (b.0 ∷ b.1))
@@ -168,11 +158,6 @@ root_alone (x ∷ a) some s rest one =
 
 -- ---- a successful finish
 
-finish_ran : (i : List SegmentView) → Only (finishes i) (ran_of i)
-finish_ran i l h =
-    let both = and_parts (is_of i l) (same_kind l.kind Finished) h in
-    and_from (is_of i l) (is_ran l.kind) both.0 (or_right (same_kind l.kind Started) _ (or_left (same_kind l.kind Finished) _ both.1))
-
 not_finished : (i : List SegmentView) (ls : List Label) → IsOnce ls → list_any (finishes i) ls ≡ true → list_any (skips i) ls ≡ true → ⊥
 not_finished i [] o f k = true≢false (sym f)
 not_finished i (x ∷ []) o f k = true≢false (sym o ∙ (finish_or x.kind (and_parts (is_of i x) _ (any_one _ f)).1).0)
@@ -204,9 +189,6 @@ module _ (all : List NumberedNode) (table : List Descriptor) (f : Forest) (worke
     its : slice_get (ids_of table) key ≡ Some own
     its = subst (λ t. slice_get (ids_of t) key ≡ Some own) run.over (map_get (λ (d : Descriptor). d.id) r.table key h.descriptor h.static)
 
-    own_name : name r key ≡ own
-    own_name = ap (λ o. id_in (option_or o (desc_in r.entries key))) h.static
-
     -- the key itself starts, or is skipped
     not_begun : list_any (begins own) (labels r) ≡ true → ⊥
     not_begun any =
@@ -215,9 +197,8 @@ module _ (all : List NumberedNode) (table : List Descriptor) (f : Forest) (worke
         let e = x.entry in
         let begun : begins own (label (name r) e.event) ≡ true = ap (begins own) x.label_is ∙ found.passes in
         let named : name r e.event.key ≡ own = (same_decides (name r e.event.key) own).0 (begin_of own (label (name r) e.event) begun) in
-        let comes = each_at (HasKey all table (Comes all table f workers r plan run) (from_table all table f workers r plan run)) (events r.entries) found.position e.event (all_keys all table f workers r plan run)
-        (map_get (λ (y : Entry). y.event) r.entries found.position e x.stands) in
-        let same = same_key all table f workers r plan run e.event.key key comes (from_table all table f workers r plan run key own its) (named ∙ sym own_name) in
+        let its_id = subst (HasId r e.event.key) named (run_described all table f workers r plan run found.position e x.stands) in
+        let same = run_one_key all table f workers r plan run own e.event.key key its_id (let k : HasId r key own = record { descriptor = h.descriptor; described = static_desc r key h.descriptor h.static; id_is = refl } in k) in
         ⊎_elim {C = ⊥}
         (λ (a : starts own (label (name r) e.event) ≡ true).
         h.no_turn.unstarted found.position e x.stands same (and_parts (is_of own (label (name r) e.event)) _ a).1)

@@ -171,7 +171,7 @@ module _ (all : List NumberedNode) (table : List Descriptor) where
       (subst (P (base + position n.number ids)) k.id (by_run (position n.number ids) n.number (get_prefix ids rest (position n.number ids) n.number h.1)))
 
   -- for each step: a registration has the next key
-  pub key_for_known : (P : ℕ → List SegmentView → Type 0) (base : ℕ) (ids : List ℕ) (s : Step) (ss : List Step) → Named all table ids (s ∷ ss)
+  key_for_known : (P : ℕ → List SegmentView → Type 0) (base : ℕ) (ids : List ℕ) (s : Step) (ss : List Step) → Named all table ids (s ∷ ss)
       → ((k : ℕ) (x : List SegmentView) → slice_get (ids_of table) k ≡ Some x → P k x)
       → ((j : ℕ) (x : ℕ) → slice_get (ids ++ ids_emitted (s ∷ ss)) j ≡ Some x → P (base + j) (id_at all x))
       → P (key_for (length table) base ids (plain s)) s.node.id × ((j : ℕ) (x : ℕ) → slice_get (emitted_after ids s ++ ids_emitted ss) j ≡ Some x → P (base + j) (id_at all x))

@@ -13,9 +13,10 @@ pub mod Orders
 pub mod Positions
 pub mod Scripts
 pub mod ListenerSteps
-pub mod OneKey
-pub mod ByKey
+pub mod RecordIds
+pub mod RunRegistrations
 pub mod RecordLifecycle
+pub mod LifecycleToListener
 pub mod DueKeys
 pub mod Turns
 pub mod Stamps

@@ -12,10 +12,10 @@ use Rattle.tk_events.specs.declared.kinds.Kind.TheVariants.{Dynamic, Finished, S
 use Rattle.tk_ids.specs.IdText.{SegmentView}
 use Rattle.tk_ids.specs.declared.descriptors.Descriptor.{Descriptor}
 use Rattle.tk_plan_laws.proofs.Lists.{each_from}
-use Rattle.tk_plan_laws.proofs.Model.{Forest, Item, Models, Publication, a_file, an_entry, item_label, nodes_below, plan_labels, publications}
+use Rattle.tk_plan_laws.proofs.Model.{Each, Forest, Item, Models, Publication, a_file, an_entry, item_label, nodes_below, plan_labels, publications}
 use Rattle.tk_plan_laws.proofs.Orders.{Only, any_kept, filter_kept, followed_kept, preceded, precedes_kept}
 use Rattle.tk_plan_laws.proofs.SameReports.{chain_one_below}
-use Rattle.tk_plan_laws.proofs.Scripts.{chain_pair_below, either, own_labels, own_law_below, published_labels, ran_labels, script_finish, script_start}
+use Rattle.tk_plan_laws.proofs.Scripts.{IsOwn, chain_pair_below, either, own_labels, own_law_below, published_labels, ran_labels, script_finish, script_start, snoc_some}
 use Rattle.tk_plan_laws.proofs.Through.{chain_law}
 use Rattle.tk_report_text.specs.Labels.{Label, labels, same_id, same_kind}
 use Rattle.tk_plan_laws.specs.Listening.{IsOnce, Listens, finishes, is_followed, is_of, is_ran, precedes, registers, skips, starts}
@@ -107,6 +107,10 @@ pub skip_ran : (i : List SegmentView) → Only (skips i) (ran_of i)
 skip_ran i l h = ap₂ (λ b c. b && c) (and_parts (is_of i l) (same_kind l.kind Skipped) h).0
     (or_right (same_kind l.kind Started) _ (or_right (same_kind l.kind Finished) _ (and_parts (is_of i l) (same_kind l.kind Skipped) h).1))
 
+pub finish_ran : (i : List SegmentView) → Only (finishes i) (ran_of i)
+finish_ran i l h = ap₂ (λ b c. b && c) (and_parts (is_of i l) (same_kind l.kind Finished) h).0
+    (or_right (same_kind l.kind Started) _ (or_left (same_kind l.kind Finished) _ (and_parts (is_of i l) (same_kind l.kind Finished) h).1))
+
 started_any : (i : List SegmentView) → Only (starts i) (is_of i)
 started_any i l h = (and_parts (is_of i l) (same_kind l.kind Started) h).0
 
@@ -117,19 +121,15 @@ any_wider p q only (x ∷ xs) h = ⊎_elim
     (λ f. or_right (q x) _ (any_wider p q only xs (sym (ap (λ b. b || list_any p xs) f) ∙ h)))
     (cases_Bool (p x))
 
-nonempty : (i : List SegmentView) (s : SegmentView) → (i ++ s ∷ []) ≢ []
-nonempty [] s e = cc
-nonempty (x ∷ xs) s e = cc
-
 -- an event below i needs a start of i
 below_started : (ls : List Label) → ((p : List SegmentView) (s : SegmentView) → p ≢ [] → precedes (starts p) (is_of (p ++ s ∷ [])) ls ≡ true)
     → (more : List SegmentView) (i : List SegmentView) (s : SegmentView) → i ≢ [] → list_any (is_of (i ++ s ∷ more)) ls ≡ true → list_any (starts i) ls ≡ true
 below_started ls first [] i s n h = preceded (starts i) (is_of (i ++ s ∷ [])) ls (first i s n) h
 below_started ls first (m ∷ more) i s n h =
-    let up = below_started ls first more (i ++ s ∷ []) m (nonempty i s) (ap (λ j. list_any (is_of j) ls) (append_assoc i (s ∷ []) (m ∷ more)) ∙ h) in
+    let up = below_started ls first more (i ++ s ∷ []) m (snoc_some i s) (ap (λ j. list_any (is_of j) ls) (append_assoc i (s ∷ []) (m ∷ more)) ∙ h) in
     preceded (starts i) (is_of (i ++ s ∷ [])) ls (first i s n) (any_wider (starts (i ++ s ∷ [])) (is_of (i ++ s ∷ [])) (started_any (i ++ s ∷ [])) ls up)
 
-skipped_from : (ls : List Label) → ((i : List SegmentView) → IsOnce (filter (ran_of i) ls)) → ((p : List SegmentView) (s : SegmentView) → p ≢ [] → precedes (starts p) (is_of (p ++ s ∷ [])) ls ≡ true)
+pub skipped_from : (ls : List Label) → ((i : List SegmentView) → IsOnce (filter (ran_of i) ls)) → ((p : List SegmentView) (s : SegmentView) → p ≢ [] → precedes (starts p) (is_of (p ++ s ∷ [])) ls ≡ true)
     → (i : List SegmentView) (s : SegmentView) (more : List SegmentView) → i ≢ [] → list_any (skips i) ls ≡ true → list_any (is_of (i ++ s ∷ more)) ls ≡ false
 skipped_from ls once first i s more n h = ⊎_elim
     (λ t. let up = below_started ls first more i s n t in
@@ -149,8 +149,12 @@ module _ (all : List NumberedNode) (table : List Descriptor) (f : Forest) (worke
   same_pair : (p : List SegmentView) (s : SegmentView) → p ≢ [] → filter (λ l. either p (p ++ s ∷ []) l.id) (labels r) ≡ filter (λ l. either p (p ++ s ∷ []) l.id) (plan_labels f)
   same_pair p s n = chain_law all table f workers r plan run (either p (p ++ s ∷ [])) (chain_pair_below p s [] f plan.built (λ e. n (sym e)) (plan.distinct p) (plan.distinct (p ++ s ∷ [])))
 
-  own : (i : List SegmentView) → (filter (is_of i) (labels r) ≡ []) ⊎ ((n : Item) × (same_id n.id i ≡ true) × (filter (is_of i) (labels r) ≡ own_labels n))
-  own i = ⊎_elim (λ e. inl (same_one i ∙ e)) (λ e. inr (e.0, e.1, same_one i ∙ e.2)) (own_law_below (λ n. Unit {0}) i 0 f (each_from (λ n. Unit {0}) (nodes_below f) (λ j n e. tt)) (plan.distinct i))
+  -- the labels of an id are those of one node, of which holds what holds of each
+  pub own_of : (P : Item → Type 0) → Each P (nodes_below f) → (i : List SegmentView) → IsOwn P i (filter (is_of i) (labels r))
+  own_of P each i = subst (IsOwn P i) (sym (same_one i)) (own_law_below P i 0 f each (plan.distinct i))
+
+  own : (i : List SegmentView) → IsOwn (λ n. Unit {0}) i (filter (is_of i) (labels r))
+  own = own_of (λ n. Unit {0}) (each_from (λ n. Unit {0}) (nodes_below f) (λ j n e. tt))
 
   ran_only : (i : List SegmentView) → Only (ran_of i) (is_of i)
   ran_only i l h = (and_parts (is_of i l) (is_ran l.kind) h).0

@@ -1,7 +1,7 @@
 -- Elements of lists at their positions.
-use Rattle.std.proofs.Common.{◌≡◌, ◌<◌, ◌≤◌, ℕ, zero, suc, ◌+◌, Bool, true, false, not, ◌||◌, List, [], ◌∷◌, map, take, Some, slice_get, refl, sym, ap, ◌∙◌, arith, if◌then◌else◌, ⊎_elim}
+use Rattle.std.proofs.Common.{◌≡◌, ◌<◌, ◌≤◌, ℕ, zero, suc, ◌+◌, Bool, true, false, not, ◌||◌, List, [], ◌∷◌, map, take, Some, option_map, slice_get, refl, sym, ap, ◌∙◌, arith, if◌then◌else◌, ⊎_elim}
 use Rattle.std.specs.List.{list_any}
-use Rattle.std.proofs.lemmas.Bool.{true≢false, and_parts, or_cases, or_right}
+use Rattle.std.proofs.lemmas.Bool.{true≢false, and_from, and_parts, cases_Bool, or_cases, or_left, or_right}
 use Rattle.std.proofs.lemmas.Option.{same_Some, none-some}
 use Rattle.tk_plan_laws.proofs.Model.{count}
 use Rattle.tk_plan_laws.specs.Listening.{is_followed, precedes}
@@ -70,6 +70,47 @@ later p q (y ∷ ys) (suc i) x h at is =
     let l = later p q ys i x both.1 at is in let lt = l.after in
     record { found = next q y ys l.found; after = omega (arith, lt) }
 
+-- each element that passes q has one before it that passes p
+pub precedes_from : {A : Type 0} (p q : A → Bool) (xs : List A) → ((i : ℕ) (x : A) → slice_get xs i ≡ Some x → q x ≡ true → Earlier p xs i) → precedes p q xs ≡ true
+precedes_from p q [] h = refl
+precedes_from {A} p q (y ∷ ys) h =
+    let rest : p y ≡ false → precedes p q ys ≡ true = λ n. precedes_from p q ys (λ i x at is. less i n (h (suc i) x at is)) in
+    and_from (not (q y)) (p y || precedes p q ys)
+    (⊎_elim (λ t. none (h 0 y refl t)) (λ f. ap not f) (cases_Bool (q y)))
+    (⊎_elim (λ t. or_left (p y) (precedes p q ys) t) (λ f. or_right (p y) (precedes p q ys) (rest f)) (cases_Bool (p y)))
+  where
+    none : {b : Bool} → Earlier p (y ∷ ys) 0 → b ≡ true
+    none e = let no = e.before in absurd (omega (arith, no))
+
+    less : (i : ℕ) → p y ≡ false → Earlier p (y ∷ ys) (suc i) → Earlier p ys i
+    less i n e = by e.found.position e.found.element e.found.stands e.found.passes e.before
+      where
+        by : (j : ℕ) (x : A) → slice_get (y ∷ ys) j ≡ Some x → p x ≡ true → j < suc i → Earlier p ys i
+        by zero x at is lt = absurd (true≢false (sym is ∙ ap p (sym (same_Some y x at)) ∙ n))
+        by (suc j) x at is lt = record { found = record { position = j; element = x; stands = at; passes = is }; before = omega (arith, lt) }
+
+-- each element that passes p has one after it that passes q
+pub followed_from : {A : Type 0} (p q : A → Bool) (xs : List A) → ((i : ℕ) (x : A) → slice_get xs i ≡ Some x → p x ≡ true → Later q xs i) → is_followed p q xs ≡ true
+followed_from p q [] h = refl
+followed_from {A} p q (y ∷ ys) h =
+    and_from (not (p y) || list_any q ys) (is_followed p q ys)
+    (⊎_elim (λ t. or_right (not (p y)) (list_any q ys) (found (h 0 y refl t))) (λ f. or_left (not (p y)) (list_any q ys) (ap not f)) (cases_Bool (p y)))
+    (followed_from p q ys (λ i x at is. less i (h (suc i) x at is)))
+  where
+    less : (i : ℕ) → Later q (y ∷ ys) (suc i) → Later q ys i
+    less i l = by l.found.position l.found.element l.found.stands l.found.passes l.after
+      where
+        by : (j : ℕ) (x : A) → slice_get (y ∷ ys) j ≡ Some x → q x ≡ true → suc i < j → Later q ys i
+        by zero x at is lt = absurd (omega (arith, lt))
+        by (suc j) x at is lt = record { found = record { position = j; element = x; stands = at; passes = is }; after = omega (arith, lt) }
+
+    found : Later q (y ∷ ys) 0 → list_any q ys ≡ true
+    found l = by l.found.position l.found.element l.found.stands l.found.passes l.after
+      where
+        by : (j : ℕ) (x : A) → slice_get (y ∷ ys) j ≡ Some x → q x ≡ true → 0 < j → list_any q ys ≡ true
+        by zero x at is lt = absurd (omega (arith, lt))
+        by (suc j) x at is lt = any_from q ys j x at is
+
 -- ---- how many pass
 
 more : (b : Bool) (n m : ℕ) → m ≤ n → m ≤ (if b then 1 + n else n)
@@ -103,6 +144,11 @@ taken_at zero xs i x lt at = let no : ⊥ = omega (arith, lt) in absurd no
 taken_at (suc n) [] i x lt at = absurd (none-some x at)
 taken_at (suc n) (y ∷ ys) zero x lt at = at
 taken_at (suc n) (y ∷ ys) (suc i) x lt at = taken_at n ys i x (omega (arith, lt)) at
+
+pub map_get : {A B : Type 0} (g : A → B) (xs : List A) (i : ℕ) (x : A) → slice_get xs i ≡ Some x → slice_get (map g xs) i ≡ Some (g x)
+map_get g [] i x e = cc
+map_get g (y ∷ ys) zero x e = ap (option_map g) e
+map_get g (y ∷ ys) (suc i) x e = map_get g ys i x e
 
 pub of_map : {A B : Type 0} (g : A → B) (xs : List A) (i : ℕ) (y : B) → slice_get (map g xs) i ≡ Some y → (x : A) × (slice_get xs i ≡ Some x) × (g x ≡ y)
 of_map g [] i y at = absurd (none-some y at)

@@ -7,7 +7,7 @@ use Rattle.tk_plan.specs.declared.scripts.steps.Act.TheVariants.{Finish, Registe
 use Rattle.tk_ids.specs.IdText.{SegmentView}
 use Rattle.tk_plan_laws.proofs.Cut.{count-append, shown-append, shown_none, shown_none_below}
 use Rattle.tk_report_text.proofs.Ids.{same_decides}
-use Rattle.tk_plan_laws.proofs.Lists.{each_split, zero_or}
+use Rattle.tk_plan_laws.proofs.Lists.{each-append, each_split, zero_or}
 use Rattle.tk_plan_laws.proofs.Model.{AreBuilt, Each, Forest, HasNone, IsBuilt, IsChain, IsChainBelow, Item, Publication, Step, Tree, act_of, count, finish, item_label, more, no_trees, nodes, nodes_below, opening, performed, publications, published, shown, step, step_label, steps, steps_below, tree}
 use Rattle.tk_plan_laws.proofs.Orders.{followed-append, followed_end, followed_none, precedes-append, precedes_here, precedes_none}
 use Rattle.tk_plan_laws.proofs.SameReports.{chain_one_below, first_one, rest_one, rest_zero}
@@ -30,6 +30,19 @@ not_eq x y n = ⊎_elim (λ t. absurd (n ((same_decides x y).0 t))) (λ f. f) (c
 
 pub eq_not : (x y : List SegmentView) → same_id x y ≡ false → x ≢ y
 eq_not x y f e = let t = (same_decides x y).1 e in let bad : true ≡ false = sym t ∙ f in cc
+
+pub snoc_some : (a : List SegmentView) (s : SegmentView) → a ++ s ∷ [] ≢ []
+snoc_some [] s e = cc
+snoc_some (x ∷ a) s e = cc
+
+mutual
+  some_ids_in : (above : List SegmentView) (t : Tree) → IsBuilt above t → Each (λ n. n.id ≢ []) (nodes t)
+  some_ids_in above (tree n f) b = ((λ none. snoc_some above b.0.0 (sym b.0.1 ∙ none)), some_ids n.id f b.1)
+
+  -- each node has an id
+  pub some_ids : (above : List SegmentView) (f : Forest) → AreBuilt above f → Each (λ n. n.id ≢ []) (nodes_below f)
+  some_ids above no_trees b = tt
+  some_ids above (more t f) b = each-append (λ (n : Item). n.id ≢ []) (nodes t) (nodes_below f) (some_ids_in above t b.0) (some_ids above f b.1)
 
 -- ---- a fact of lists of labels that goes on, that holds where a child has no label, and of what its parent does
 

@@ -1,7 +1,7 @@
 -- The events around the units keep the lifecycle by themselves.
-use Rattle.std.proofs.Common.{◌≡◌, ◌<◌, ◌≤◌, ℕ, zero, suc, ◌+◌, ◌⊎◌, ⊎_elim, inl, inr, true, false, not, cond, ◌&&◌, ◌==◌, if◌then◌else◌, List, [], ◌∷◌, ◌++◌, length, take, All, Some, slice_get, refl, sym, ap, ◌∙◌, subst, arith, eqb-true, nat_eq}
+use Rattle.std.proofs.Common.{◌≡◌, ◌<◌, ◌≤◌, ℕ, zero, suc, ◌+◌, ◌⊎◌, ⊎_elim, inl, inr, true, false, not, cond, ◌&&◌, ◌==◌, List, [], ◌∷◌, ◌++◌, length, take, All, Some, slice_get, refl, sym, ap, ◌∙◌, subst, arith, eqb-true, nat_eq}
 use Rattle.std.specs.Option.{option_or}
-use Rattle.std.proofs.lemmas.Bool.{true≢false, and_parts, and_from, or_left, or_parts, or_from, cases_Bool, not-true, not_from_false}
+use Rattle.std.proofs.lemmas.Bool.{true≢false, and_parts, and_from, or_left, or_parts, or_from, not-true, not_from_false}
 use Rattle.std.proofs.lemmas.Bool.Decides.{nat_tests}
 use Rattle.std.proofs.lemmas.List.{map-append}
 use Rattle.std.proofs.lemmas.List.Elements.{All-nil, All-cons, All-map, All-push, All-weaker}
@@ -21,7 +21,7 @@ use Rattle.tk_record.specs.Recorded.{Recorded}
 use Rattle.tk_record.specs.Entries.{of_kind, desc_in, with_entry}
 use Rattle.tk_record.specs.Mixing.{IsWorkerOf, of_worker}
 use Rattle.tk_query_lifecycle.specs.Lifecycle.{is_event, has_event, runs, HasId, first_entries}
-use Rattle.tk_query_lifecycle.specs.KeepsLifecycle.{is_step, steps_of, IsWhole, KeepsLifecycle}
+use Rattle.tk_query_lifecycle.specs.KeepsLifecycle.{steps_of, IsWhole, KeepsLifecycle}
 use Rattle.tk_query_lifecycle.proofs.FirstEntries.{first_more}
 use Rattle.tk_query_lifecycle.proofs.IdMapLemmas.{ids_first, known_or_new}
 use Rattle.tk_query_lifecycle.proofs.ListLemmas.{there}
@@ -40,6 +40,7 @@ use Rattle.tk_plan_laws.specs.Scripts.{IsRunOf, may, played}
 use Rattle.tk_plan_laws.specs.Spines.{IsOnSpine, IsSpineEvent}
 use Rattle.tk_plan_laws.proofs.SpineEvents.{spine_finishes}
 use Rattle.tk_plan_laws.proofs.PlanTrees.{models, trees_of}
+use Rattle.tk_plan_laws.proofs.RecordIds.{step_or_none}
 use Rattle.tk_plan_laws.proofs.RecordLifecycle.{run_keeps}
 use Rattle.tk_plan_laws.proofs.Positions.{any_at, in_taken, of_map}
 
@@ -98,17 +99,6 @@ without_middle (s ∷ t ∷ x) m y w running ends = absurd (ended w)
     ended (ran is) = finished (both s t (x ++ m ++ y) is)
 
 -- ---- the middle taken out
-
--- a key has no step there, or what holds of the keys of all events there
-step_or_none : (P : ℕ → Type 0) (key : ℕ) (es : List Entry) → ((p : ℕ) (e : Entry) → slice_get es p ≡ Some e → P e.event.key) → (steps_of key es ≡ []) ⊎ P key
-step_or_none P key [] own = inl refl
-step_or_none P key (e ∷ es) own = ⊎_elim {C = (steps_of key (e ∷ es) ≡ []) ⊎ P key}
-    (λ yes. inr (subst P (eqb-true e.event.key key (and_parts (is_step e.event.kind) (e.event.key == key) yes).1) (own 0 e refl)))
-    (λ no. ⊎_elim {C = (steps_of key (e ∷ es) ≡ []) ⊎ P key}
-    (λ rest. inl (ap (λ b. if b then e.event.kind ∷ steps_of key es else steps_of key es) no ∙ rest))
-    (λ holds. inr holds)
-    (step_or_none P key es (λ p x at. own (suc p) x at)))
-    (cases_Bool (is_step e.event.kind && (e.event.key == key)))
 
 -- these entries over a table
 abbrev record_of : List Descriptor → List Entry → Recorded

@@ -73,7 +73,7 @@ mutual
 
 -- ---- what a worker emits
 
-pub get_back : {A : Type 0} (xs ys : List A) (i : ℕ) → slice_get (xs ++ ys) (length xs + i) ≡ slice_get ys i
+get_back : {A : Type 0} (xs ys : List A) (i : ℕ) → slice_get (xs ++ ys) (length xs + i) ≡ slice_get ys i
 get_back [] ys i = ap (slice_get ys) (let e : 0 + i ≡ i = omega arith in e)
 get_back (x ∷ xs) ys i = ap (slice_get (x ∷ (xs ++ ys))) (let e : suc (length xs) + i ≡ suc (length xs + i) = omega arith in e) ∙ get_back xs ys i
 
@@ -201,7 +201,7 @@ module _ (all : List NumberedNode) (table : List Descriptor) (f : Forest) (worke
       ((slice_get run.shared.drawn i ≡ None) × (of_worker (i + 1) run.mid ≡ []))
       ⊎ ((us : List ℕ) × (slice_get run.shared.drawn i ≡ Some us) × Emits (may all table) (i + 1) 0 us (of_worker (i + 1) run.mid))
 
-  pub worker_did : (i : ℕ) → WorkerDid i
+  worker_did : (i : ℕ) → WorkerDid i
   worker_did i = ⊎_elim
       (λ us.
       let l = slice_get_within run.shared.drawn i us.0 us.1 in
@@ -213,7 +213,7 @@ module _ (all : List NumberedNode) (table : List Descriptor) (f : Forest) (worke
   pub claims : (u : ℕ) → times_in u run.shared.drawn ≡ if nat_lt u (length (units f)) then 1 else 0
   claims u = claimed_once _ run.shared.drawn run.shared.claims u ∙ ap (λ n. if nat_lt u n then 1 else 0) plan.number
 
-  pub named_all : (u : ℕ) → Named all table [] (part_steps f u)
+  named_all : (u : ℕ) → Named all table [] (part_steps f u)
   named_all = named_unit all table f plan.keyed
 
   few_ids : (i : ℕ) (us : List ℕ) → slice_get run.shared.drawn i ≡ Some us → length (drawn_ids f us) ≤ 65536
@@ -227,7 +227,7 @@ module _ (all : List NumberedNode) (table : List Descriptor) (f : Forest) (worke
       ap events (run.whole ∙ append_assoc (entries_by 0 b) run.mid (entries_by 0 a)) ∙ (events-append (entries_by 0 b) _
       ∙ ap₂ (λ x y. x ++ y) (events_by 0 b ∙ plan.before) (events-append run.mid _ ∙ ap (λ l. events run.mid ++ l) (events_by 0 a ∙ plan.after)))
 
-  pub name_table : (k : ℕ) (x : List SegmentView) → slice_get (ids_of table) k ≡ Some x → names k ≡ x
+  name_table : (k : ℕ) (x : List SegmentView) → slice_get (ids_of table) k ≡ Some x → names k ≡ x
   name_table k x e = ap (λ t. id_in (option_or (slice_get t k) (desc_in r.entries k))) run.over ∙ id_table table k x _ e
 
   pub name_above : (k : ℕ) → length table ≤ k → names k ≡ first_or_nil (event_of_step k (events r.entries))
@@ -252,7 +252,7 @@ module _ (all : List NumberedNode) (table : List Descriptor) (f : Forest) (worke
       (λ no. n (same ∙ ap (λ z. z + 1) no)))))
       (worker_did v)
 
-  pub emitted_drawn : (i j : ℕ) (us : List ℕ) (x : ℕ) → slice_get run.shared.drawn i ≡ Some us → slice_get (drawn_ids f us) j ≡ Some x
+  emitted_drawn : (i j : ℕ) (us : List ℕ) (x : ℕ) → slice_get run.shared.drawn i ≡ Some us → slice_get (drawn_ids f us) j ≡ Some x
       → event_of_step (65536 * (i + 1) + 0 + j) (events r.entries) ≡ map (id_at all) (hits (65536 * (i + 1) + 0 + j) (65536 * (i + 1) + 0) (drawn_ids f us))
   emitted_drawn i j us x e s =
       let key = 65536 * (i + 1) + 0 + j in

@@ -1,8 +1,10 @@
 -- What holds of each run of a plan.
 use Rattle.std.specs.Prelude.{◌≡◌, ◌↔◌, ℕ, List, [], ◌++◌, Some, slice_get, length, option_map}
+use Rattle.tk_ids.specs.Table.{AreDifferent}
 use Rattle.tk_ids.specs.declared.descriptors.Descriptor.{Descriptor}
 use Rattle.tk_events.specs.declared.events.Event.{Event}
 use Rattle.tk_record.specs.Recorded.{Recorded}
+use Rattle.tk_record.specs.Record.{IsRecord}
 use Rattle.tk_record.specs.Entries.{desc}
 use Rattle.tk_query_lifecycle.specs.KeepsLifecycle.{KeepsLifecycle}
 use Rattle.tk_query_lifecycle.specs.NeverRan.{EachDueKeyRuns}
@@ -15,7 +17,7 @@ use Rattle.tk_plan.specs.Trees.{Forest, forest}
 use Rattle.tk_plan.specs.Cutting.{root_script, script_of}
 use Rattle.tk_plan.specs.Numbers.{IsNumbered}
 use Rattle.tk_plan.specs.Planned.{IsPlanned}
-use Rattle.tk_report_text.specs.Labels.{name, events, labels}
+use Rattle.tk_report_text.specs.Labels.{labels}
 use Rattle.tk_plan_laws.specs.Scripts.{
   IsRunOf,
   ArePlayable,
@@ -29,7 +31,7 @@ use Rattle.tk_plan_laws.specs.Scripts.{
 }
 use Rattle.tk_report_text.specs.Reports.{report_of_record}
 use Rattle.tk_plan_laws.specs.Reports.{report_of_plan}
-use Rattle.tk_plan_laws.specs.Listening.{Listens, ListensByKey}
+use Rattle.tk_plan_laws.specs.Listening.{Listens}
 
 -- a step's stamp is its position in the root's script
 abbrev pub StampsArePositions : Type 0
@@ -58,6 +60,12 @@ NodesAreFound =
     (key_of (length table) (next_key worker sent) (known_in [] prefix) node))
     ≡ Some (id_at nodes node)
 
+-- In each record that keeps the lifecycle, over a table without two descriptors of one id, the ids
+-- keep the order that a listener may rely on.
+abbrev pub LifecycleIsReliedOn : Type 0
+LifecycleIsReliedOn =
+    (r : Recorded) → IsRecord r → AreDifferent r.table → KeepsLifecycle r → Listens (labels r)
+
 -- P holds of a plan, its table and the record of each of its runs, for any number of workers
 abbrev pub OfEachRun : (List NumberedNode → List Descriptor → Recorded → Type 0) → Type 0
 OfEachRun P =
@@ -72,10 +80,6 @@ ReportIsUnique = OfEachRun (λ nodes table r. report_of_record r ≡ report_of_p
 -- in the record of a run the descriptors' ids keep the order that a listener may rely on
 abbrev pub Listener : Type 0
 Listener = OfEachRun (λ nodes table r. Listens (labels r))
-
--- in the record of a run the descriptors' keys keep the order that a listener may rely on
-abbrev pub ListenerByKey : Type 0
-ListenerByKey = OfEachRun (λ nodes table r. ListensByKey (length table) (name r) (events r.entries))
 
 -- the record of a run keeps the lifecycle
 abbrev pub RunsKeepLifecycle : Type 0

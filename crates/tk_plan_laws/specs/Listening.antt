@@ -1,29 +1,10 @@
 -- What a listener may rely on.
-use Rattle.std.specs.Prelude.{
-  ◌≡◌,
-  ◌≢◌,
-  ◌≤◌,
-  ◌==◌,
-  ℕ,
-  Bool,
-  true,
-  false,
-  not,
-  ◌&&◌,
-  ◌||◌,
-  List,
-  [],
-  ◌∷◌,
-  ◌++◌,
-  map,
-  filter,
-}
+use Rattle.std.specs.Prelude.{◌≡◌, ◌≢◌, Bool, true, false, not, ◌&&◌, ◌||◌, List, [], ◌∷◌, ◌++◌, filter}
 use Rattle.std.specs.List.{list_any}
 use Rattle.tk_ids.specs.IdText.{SegmentView}
 use Rattle.tk_events.specs.declared.kinds.Kind.{Kind}
 use Rattle.tk_events.specs.declared.kinds.Kind.TheVariants.{Dynamic, Skipped, Started, Finished}
-use Rattle.tk_events.specs.declared.events.Event.{Event}
-use Rattle.tk_report_text.specs.Labels.{Label, label, same_id, same_kind}
+use Rattle.tk_report_text.specs.Labels.{Label, same_id, same_kind}
 
 -- each element that passes `later` has one before it that passes `earlier`
 abbrev pub precedes : {A : Type 0} → (A → Bool) → (A → Bool) → List A → Bool
@@ -83,38 +64,3 @@ pub record Listens (ls : List Label) : Type 0 where
   pub registered_first :
       (i : List SegmentView) → list_any (registers i) ls ≡ true
       → precedes (registers i) (λ l. is_of i l && is_ran l.kind) ls ≡ true
-
--- the descriptor of key k is a child of that of key p: its id is the parent's with one segment more
-abbrev pub IsChild : (ℕ → List SegmentView) → ℕ → ℕ → Type 0
-IsChild names p k = (names p ≢ []) × (s : SegmentView) × (names k ≡ names p ++ s ∷ [])
-
--- the descriptor of key k stands below that of key p: its id is the other's with more segments
-abbrev pub IsBelow : (ℕ → List SegmentView) → ℕ → ℕ → Type 0
-IsBelow names p k =
-    (names p ≢ []) × (s : SegmentView) × (more : List SegmentView)
-    × (names k ≡ names p ++ s ∷ more)
-
--- What a listener may rely on of the keys of a record over its table. A key without a descriptor
--- has the id [].
-pub record ListensByKey (statics : ℕ) (names : ℕ → List SegmentView) (es : List Event) :
-    Type 0 where
-  -- a key is skipped once, or starts once and then finishes once, or none of these
-  pub once : (k : ℕ) → IsOnce (map (label names) (filter (λ e. e.key == k && is_ran e.kind) es))
-  -- a parent starts before each event of a child
-  pub start_first :
-      (p k : ℕ) → IsChild names p k
-      → precedes (λ e. e.key == p && same_kind e.kind Started) (λ e. e.key == k) es ≡ true
-  -- a parent finishes after each event of a child
-  pub finish_last :
-      (p k : ℕ) → IsChild names p k
-      → is_followed (λ e. e.key == k) (λ e. e.key == p && same_kind e.kind Finished) es ≡ true
-  -- nothing below a skipped descriptor has an event
-  pub skipped :
-      (p k : ℕ) → IsBelow names p k
-      → list_any (λ e. e.key == p && same_kind e.kind Skipped) es ≡ true
-      → list_any (λ e. e.key == k) es ≡ false
-  -- what has no descriptor in the table is registered first
-  pub registered_first :
-      (k : ℕ) → statics ≤ k
-      → precedes (λ e. e.key == k && same_kind e.kind Dynamic)
-      (λ e. e.key == k && is_ran e.kind) es ≡ true

@@ -1,8 +1,14 @@
 //! Laws of runs of plans, which hold of the definitions alone.
+ghost use Rattle.tk_query_lifecycle.specs.KeepsLifecycle.{KeepsLifecycle};
+ghost use Rattle.tk_query_lifecycle.specs.Lifecycle.{IsLifecycle};
+ghost use Rattle.tk_query_lifecycle.specs.declared.lifecycle_rules.Lifecycle.TheVariants.{Kept};
+ghost use Rattle.tk_report_text.specs.Labels.{labels};
+ghost use Rattle.tk_plan_laws.specs.Listening.{Listens};
 ghost use Rattle.tk_plan_laws.specs.Spines.{NodesArePlaced, SpineEmits, SpineKeepsLifecycle, SpineRuns};
-ghost use Rattle.tk_plan_laws.specs.Laws.{DueKeysRun, StampsArePositions, ScriptsArePlayable, NodesAreFound, ReportIsUnique, Listener, ListenerByKey, RunsKeepLifecycle, RunsAreKept};
+ghost use Rattle.tk_plan_laws.specs.Laws.{DueKeysRun, StampsArePositions, ScriptsArePlayable, NodesAreFound, ReportIsUnique, Listener, LifecycleIsReliedOn, RunsKeepLifecycle, RunsAreKept};
 
 use tk_query_lifecycle::laws::{kept_by_its_events, lifecycle_is_unique};
+use tk_record::Record;
 
 /// The stamp of a step is its position in the root's script.
 pub fn stamps_are_positions()
@@ -31,10 +37,24 @@ pub fn listener()
     ensures { Listener }
 {}
 
-/// Every run of a plan registers, starts, skips and finishes each key as a listener may rely on.
-pub fn listener_by_key()
-    ensures { ListenerByKey }
+/// Every record that keeps the lifecycle registers, starts, skips and finishes each id as a listener
+/// may rely on.
+pub fn lifecycle_is_relied_on()
+    ensures { LifecycleIsReliedOn }
 {}
+
+/// What a listener may rely on holds of a record that keeps the lifecycle, and so of each record of
+/// which [`lifecycle`](tk_query_lifecycle::lifecycle) answers `Kept`.
+pub fn kept_is_relied_on(record: &Record)
+    ensures keeps { KeepsLifecycle «record».now → Listens (labels «record».now) }
+    ensures kept { IsLifecycle «record».now Kept → Listens (labels «record».now) }
+{
+    // For the proof: what holds of each record and of its table.
+    record.shows_record();
+    record.table().shows_different_ids();
+    lifecycle_is_relied_on();
+    kept_by_its_events();
+}
 
 /// Every run of a plan keeps the lifecycle, its root, and each child of what succeeds, runs or is
 /// skipped, and `Kept` is the one answer of `lifecycle` on it.

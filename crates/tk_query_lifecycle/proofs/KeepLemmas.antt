@@ -15,7 +15,7 @@ use Rattle.tk_events.specs.declared.events.Entry.{Entry}
 use Rattle.tk_events.specs.Event.{kind_code}
 use Rattle.tk_record.specs.Entries.{of_kind, desc, with_entry}
 use Rattle.tk_record.specs.Recorded.{Recorded}
-use Rattle.tk_query_lifecycle.specs.Lifecycle.{is_event, has_event, has_run, runs, HasId, BreaksNone, NoneBreaks, IsInOrder, HasNoRunningParent, RunsAgain, EndsNothing, LeavesChild, first_entries}
+use Rattle.tk_query_lifecycle.specs.Lifecycle.{is_event, has_event, has_run, runs, HasId, KnowsId, BreaksNone, NoneBreaks, IsInOrder, HasNoRunningParent, RunsAgain, EndsNothing, LeavesChild, first_entries}
 use Rattle.tk_query_lifecycle.specs.KeepsLifecycle.{is_step, steps_of, IsBelowRunning, KeepsLifecycle}
 use Rattle.tk_query_lifecycle.specs.LifecycleLaws.{InOrderByItsEvents, KeptByItsEvents}
 use Rattle.tk_query_lifecycle.specs.declared.lifecycle_rules.LifecycleRule.TheVariants.{IdKnown, ParentUnknown, ParentNotRunning, RanAlready, NotRunning, ChildRunning}
@@ -208,10 +208,14 @@ has_id_grows r p q key id le h = record {
   id_is = h.id_is;
 }
 
+-- no event registers an id that is known
+abbrev pub IdsAreNew : Recorded → Type 0
+IdsAreNew r = (p : ℕ) (e : Entry) → slice_get r.entries p ≡ Some e → ¬ KnowsId (first_entries p r) e
+
 -- no two keys have one id
-unique_ids : (r : Recorded) → AreDifferent r.table → KeepsLifecycle r → (n : ℕ) → n ≤ length r.entries → (id : List SegmentView) (j k : ℕ) → HasId (first_entries n r) j id → HasId (first_entries n r) k id → j ≡ k
-unique_ids r different keeps zero le id j k h g = (ids_first r.table [] refl different).unique id j k h g
-unique_ids r different keeps (suc n) le id j k h g = more (λ i a b x y. unique_ids r different keeps n (omega (arith, le)) i a b x y)
+pub unique_ids : (r : Recorded) → AreDifferent r.table → IdsAreNew r → (n : ℕ) → n ≤ length r.entries → (id : List SegmentView) (j k : ℕ) → HasId (first_entries n r) j id → HasId (first_entries n r) k id → j ≡ k
+unique_ids r different new zero le id j k h g = (ids_first r.table [] refl different).unique id j k h g
+unique_ids r different new (suc n) le id j k h g = more (λ i a b x y. unique_ids r different new n (omega (arith, le)) i a b x y)
   where
     more : ((i : List SegmentView) (a b : ℕ) → HasId (first_entries n r) a i → HasId (first_entries n r) b i → a ≡ b) → j ≡ k
     more before =
@@ -221,7 +225,7 @@ unique_ids r different keeps (suc n) le id j k h g = more (λ i a b x y. unique_
         let after : first_entries (suc n) r ≡ with_entry past e.0 = ap (λ m. first_entries m r) one ∙ sym (first_more r n e.0 e.1) in
         let hj = subst (λ x. HasId x j id) after h in
         let hk = subst (λ x. HasId x k id) after g in
-        let fresh = keeps.ids n e.0 e.1 in
+        let fresh = new n e.0 e.1 in
         ⊎_elim {C = j ≡ k}
         (λ (a : HasId past j id). ⊎_elim {C = j ≡ k}
         (λ (b : HasId past k id). before id j k a b)
@@ -258,7 +262,7 @@ no_left r different keeps p e at h =
     let its = has_id_more (first_entries d.0 r) f.1 f.1.event.key h.id (subst (λ k. HasId (first_entries d.0 r) k h.id) (sym of_child) (has_id_grows r p d.0 h.child h.id le h.child_is)) in
     let b = keeps.below d.0 f.1 d.2 h.id its h.below in
     let in_record = slice_get_within r.entries d.0 f.1 d.2 in
-    let same : b.0 ≡ e.event.key = unique_ids r different keeps d.0 (omega (arith, in_record)) (parent_of h.id) b.0 e.event.key b.1 (has_id_grows r p d.0 e.event.key (parent_of h.id) le h.parent) in
+    let same : b.0 ≡ e.event.key = unique_ids r different keeps.ids d.0 (omega (arith, in_record)) (parent_of h.id) b.0 e.event.key b.1 (has_id_grows r p d.0 e.event.key (parent_of h.id) le h.parent) in
     let finished : has_event Finished e.event.key (take d.0 r.entries) ≡ true = any_from (is_event Finished e.event.key) (take d.0 r.entries) p e (taken_at d.0 r.entries p e lt at)
     (ap (λ x. x && (e.event.key == e.event.key)) h.ends ∙ eq-eqb e.event.key e.event.key refl) in
     true≢false (sym b.2 ∙ ap (λ k. runs k (take d.0 r.entries)) same

@@ -7,7 +7,5 @@ pub returns : goal.returns
 returns c =
     let plan = c.args.engine.now in
     let planned = subst (λ (p : Outline). IsPlanned p.nodes p.table) c.plan.ensures c.table-table.ensures.planned in
-    let numbers = subst (λ (p : Outline). IsNumbered p.nodes) c.plan.ensures c.table-table.ensures.numbered in record {
-      by_id = c.listener.ensures plan.nodes plan.table c.requires.0 c.args.results.now.recorded planned numbers c.requires.1;
-      by_key = c.listener_by_key.ensures plan.nodes plan.table c.requires.0 c.args.results.now.recorded planned numbers c.requires.1;
-    }
+    let numbers = subst (λ (p : Outline). IsNumbered p.nodes) c.plan.ensures c.table-table.ensures.numbered in
+    c.listener.ensures plan.nodes plan.table c.requires.0 c.args.results.now.recorded planned numbers c.requires.1
