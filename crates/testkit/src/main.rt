@@ -1,4 +1,4 @@
-//! The program: answers questions about a record text, replays a script of the event queue, and
+//! The program: answers questions about a record text, replays the steps of an event queue, and
 //! runs a plan for its report.
 #![tactic(auto)]
 

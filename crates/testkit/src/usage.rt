@@ -13,7 +13,7 @@ pub(crate) const USAGE: &str = "usage:
   testkit ask locks                                    < RECORD   did tests that declare a lock keep apart?
   testkit ask report                                   < RECORD   each id's events, without workers, keys and stamps
   testkit ask explain QUESTION ..                      < RECORD   an answer, and why
-  testkit replay                                       < REPLAY   plays a script of the event queue, prints the record
+  testkit replay                                       < REPLAY   plays the steps of an event queue, prints the record
   testkit run [--workers N] [--record]                 < PLAN     runs a plan with 1 to 15 workers, prints its report or its record
 
 SELECTION  all, tests, containers, or a NAME

@@ -125,7 +125,7 @@ fn do_run<R: Threads + Wait + Sync, S: Source, T: Target>(
     run_loaded(rt, alloc, options, loaded, target)
 }
 
-/// Does a job: answers a question, replays a script of the queue, or runs a plan with the job's
+/// Does a job: answers a question, replays the steps of a queue, or runs a plan with the job's
 /// number of workers and writes the run's report or its record.
 ///
 /// The answer is `false` where a match says no or an expectation fails, and else `true`. The record

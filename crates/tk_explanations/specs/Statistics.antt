@@ -16,18 +16,17 @@ use Rattle.std.specs.Prelude.{
   ◌==◌,
 }
 use Rattle.std.specs.List.{flat_map}
-use Rattle.std.specs.Fmt.{decimal}
 use Rattle.tk_record.specs.Selections.{
   Selected,
   events_of,
   filtered_by,
   positions_of,
-  selection_name,
   selects,
 }
 use Rattle.tk_record.specs.Statistics.{mismatches, statistics_of}
 use Rattle.tk_record.specs.declared.statistics.Expected.{Expected}
 use Rattle.tk_record.specs.declared.statistics.Mismatch.{Mismatch}
+use Rattle.tk_record.specs.StatisticTexts.{mismatch_words}
 use Rattle.tk_record_text.specs.StatisticsText.{statistics_text}
 use Rattle.tk_explanations.specs.Rows.{rows_text}
 use Rattle.tk_explanations.specs.declared.rows.Note.TheVariants.{Nothing}
@@ -37,9 +36,7 @@ use Rattle.tk_explanations.specs.declared.statistics.TheConstants.{MAX_COUNTED_R
 
 -- a statistic that differs from what was expected of it
 abbrev pub mismatch_text : Mismatch → List ℕ
-mismatch_text m =
-    codes "mismatch " ++ selection_name m.selection ++ codes " expected " ++ decimal m.expected
-    ++ codes " actual " ++ decimal m.actual
+mismatch_text m = codes "mismatch " ++ mismatch_words m
 
 -- the row of an event that was counted
 abbrev pub counted_row : ℕ → List Row

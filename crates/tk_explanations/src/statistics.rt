@@ -27,10 +27,7 @@ pub fn add_mismatch(text: &mut String, mismatch: &Mismatch) -> Result<(), AllocE
     ensures { OnOk result (string_bytes text.new
         ≡ string_bytes text.old ++ mismatch_text mismatch.now) }
 {
-    let name = mismatch.selection.name();
-    let expected = mismatch.expected;
-    let actual = mismatch.actual;
-    write!(text, "mismatch {name} expected {expected} actual {actual}")
+    write!(text, "mismatch {mismatch}")
 }
 
 // Adds the rows of the events at these positions.
