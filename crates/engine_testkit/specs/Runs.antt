@@ -1,5 +1,8 @@
 -- What clauses cite of engines, units and their runs.
+pub use Rattle.tk_engine_execute.specs.FailedRuns.{IsFailedRun, fault_in}
+pub use Rattle.tk_engine_execute.specs.Faults.{IsFaultOfRun}
 pub use Rattle.tk_engine_execute.specs.Results.{IsTallied}
+pub use Rattle.tk_engine_execute.specs.Work.{engine_view}
 pub use Rattle.tk_engine_runs.specs.Run.{IsRun}
 pub use Rattle.tk_engine_unit_events.specs.Refusals.{IsChildCause, IsPublishCause, child_start}
 pub use Rattle.tk_engine_unit_events.specs.Shapes.{count_units}

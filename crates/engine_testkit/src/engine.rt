@@ -5,7 +5,8 @@ pub use tk_engine_events::{
     publish_file, register, report, reported, skip, skipped, start, started,
 };
 pub use tk_engine_execute::{
-    Engine, OUT_OF_ORDER, Results, RunFault, Sink, SinkFault, TWICE, UnitFault, execute,
+    Engine, FailedRun, OUT_OF_ORDER, Results, RunFault, Sink, SinkFault, TWICE, UnitFault, execute,
+    execute_keeping_record,
 };
 pub use tk_engine_hierarchical::{Body, Context, Hierarchical, Reporter, Tests, run_tests};
 pub use tk_engine_unit_events::Outcome;

@@ -3,8 +3,11 @@ use crate::engines::{Asked, Seen, UnitStep, Units, engine};
 use std::alloc::Global;
 use std::sync::Wait;
 use std::thread::Threads;
-use tk_engine_execute::{Results, RunFault, UnitFault, execute};
+use tk_engine_execute::{
+    FailedRun, Results, RunFault, UnitFault, execute, execute_keeping_record,
+};
 use tk_locks::Need;
+use tk_record::Record;
 
 // What a run recorded: how many entries, the stamps of the first four, and how many events the
 // closed session says that worker 1 and that all workers emitted.
@@ -46,10 +49,10 @@ fn emitted(results: &Results) -> u64 {
 }
 
 // The stamps of the first four entries, and 0 where there are fewer.
-fn stamps(results: &Results) -> [u64; 4] {
+fn stamps(record: &Record) -> [u64; 4] {
     let mut stamps = [0u64; 4];
     for position in 0..4usize {
-        if let Some(entry) = results.recorded().entry(position) {
+        if let Some(entry) = record.entry(position) {
             stamps[position] = entry.stamp;
         }
     }
@@ -60,7 +63,7 @@ impl Recorded {
     fn of(results: &Results) -> Recorded {
         Recorded {
             entries: results.recorded().len(),
-            stamps: stamps(results),
+            stamps: stamps(results.recorded()),
             emitted_by_one: results.closed().emitted(1),
             emitted: emitted(results),
         }
@@ -181,6 +184,28 @@ fn run<R: Threads + Wait + Sync>(
     }
 }
 
+// How many entries a failed run has recorded, the stamps of the first two, and whether they are all
+// that the workers emitted.
+fn kept(failed: &FailedRun) -> Option<(usize, u64, u64, bool)> {
+    let record = failed.recorded.as_ref()?;
+    let stamps = stamps(record);
+    Some((record.len(), stamps[0], stamps[1], failed.is_complete))
+}
+
+// Runs these units by this number of workers, and says what is kept where the run fails.
+fn run_keeping_record<R: Threads + Wait + Sync>(
+    rt: &R,
+    alloc: Global,
+    units: &Units<'_>,
+    workers: usize,
+) -> Option<(usize, u64, u64, bool)> {
+    let engine = engine(alloc, units)?;
+    match execute_keeping_record(rt, alloc, &engine, workers, 64) {
+        Ok(_) => None,
+        Err(failed) => kept(&failed),
+    }
+}
+
 #[test]
 fn one_to_fifteen_workers_run_all_units(rt: HostRuntime) {
     let steps = [UnitStep::Start(0), UnitStep::Start(1)];
@@ -272,6 +297,17 @@ fn a_failure_is_handed_on(rt: HostRuntime) {
     let sink = Units::beside(2, &[], &[UnitStep::StartOf(9)]);
     let ran = run(&rt, rt.alloc(), &sink, 15, 64);
     assert!(rt; ran.has_failed(rt.alloc(), "unit 1 failed: unknown key 9"));
+}
+
+/// Of a unit that failed after two events the record has both.
+#[test]
+fn a_failed_run_keeps_its_record(rt: HostRuntime) {
+    let fails = [UnitStep::Start(1), UnitStep::Start(2), UnitStep::Fail(3)];
+    let units = Units::beside(2, &fails, &[]);
+    let kept = run_keeping_record(&rt, rt.alloc(), &units, 2);
+    assert!(rt; matches!(kept, Some((2, 1, 2, true))));
+    let refused = run_keeping_record(&rt, rt.alloc(), &units, 0);
+    assert!(rt; refused.is_none());
 }
 
 #[test]

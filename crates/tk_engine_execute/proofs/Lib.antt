@@ -6,3 +6,5 @@ pub mod Positions
 pub mod ReceiverStates
 pub mod Tokens
 pub mod SinkGrowth
+pub mod Faults
+pub mod FailedRuns

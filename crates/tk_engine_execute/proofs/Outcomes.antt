@@ -1,15 +1,18 @@
 -- What the workers of a run have left, worker by worker.
-use Rattle.std.proofs.Common.{◌≡◌, ℕ, ◌+◌, ◌<◌, ◌≤◌, true, false, List, [], ◌∷◌, ◌++◌, length, length-append, ap, subst, sym, ◌∙◌, arith, rules}
+use Rattle.std.proofs.Common.{◌≡◌, ℕ, ◌+◌, ◌<◌, ◌≤◌, Bool, true, false, List, [], ◌∷◌, ◌++◌, length, length-append, ap, subst, sym, refl, ◌∙◌, arith, rules}
 use Rattle.std.specs.Prelude.{vec_len}
 use Rattle.std.proofs.lemmas.List.Elements.{All-nil, All-push, All-weaker}
 use Rattle.std.proofs.lemmas.List.Quantifiers.{all_pairs_push}
 use Rattle.tk_base.proofs.Lists.{nil_from_length}
 use Rattle.atomic_table.specs.Seated.{TableId}
+use Rattle.tk_record.specs.Mixing.{IsWorkerOf}
+use Rattle.tk_queue_session.specs.Receivers.{ReceiverView}
 use Rattle.tk_engine_execute.specs.declared.event_collectors.EventCollector.{EventCollector}
 use Rattle.tk_engine_execute.specs.declared.worker_threads.Collected.{Collected}
 use Rattle.tk_engine_execute.specs.declared.workers.WorkerEnd.{WorkerEnd}
 use Rattle.tk_engine_execute.specs.steps.EventCollectors.{TookMore, CanCollect, NoneIsAwaited}
-use Rattle.tk_engine_execute.specs.steps.WorkerThreads.{WorkersWereRun}
+use Rattle.tk_engine_execute.specs.steps.PreparedRuns.{RunRequest, IsFreshCollector}
+use Rattle.tk_engine_execute.specs.steps.WorkerThreads.{WorkersWereRun, IsCollected}
 use Rattle.tk_engine_execute.specs.steps.Workers.{RunUnits, IsDone, AreDone}
 use Rattle.tk_engine_execute.proofs.Positions.{snoc_all}
 use Rattle.tk_engine_execute.proofs.ReceiverStates.{took_more-trans}
@@ -22,7 +25,7 @@ module _ (units : RunUnits) (session : TableId) where
   still_done : (m n : ℕ) (os : List WorkerEnd) → m ≤ n → AreDone units session m os → AreDone units session n os
   still_done m n os more done = record {
     each = done.each;
-    few = All-weaker (λ o. o.ended.worker ≤ m) (λ o. o.ended.worker ≤ n) (λ o few. omega (arith, few, more)) os done.few;
+    few = All-weaker (λ o. IsWorkerOf m o.ended.worker) (λ o. IsWorkerOf n o.ended.worker) (λ o few. (few.0, let low = few.1 in omega (arith, low, more))) os done.few;
     rising = done.rising;
   }
 
@@ -32,8 +35,8 @@ module _ (units : RunUnits) (session : TableId) where
       let own : o.ended.worker ≡ n = last.worker in
       let still = still_done m n os (omega (arith, more)) done in record {
         each = All-push IsOwn os o done.each (subst (λ w. IsDone units session w o) (sym own) last);
-        few = All-push (λ x. x.ended.worker ≤ n) os o still.few (omega (arith, own));
-        rising = all_pairs_push (λ a b. a.ended.worker < b.ended.worker) os o done.rising (λ k d within. let few = done.few k d within in omega (arith, few, more, own));
+        few = All-push (λ x. IsWorkerOf n x.ended.worker) os o still.few (omega (arith, own, more), omega (arith, own));
+        rising = all_pairs_push (λ a b. a.ended.worker < b.ended.worker) os o done.rising (λ k d within. let few = (done.few k d within).1 in omega (arith, few, more, own));
       }
 
 module _ (units : RunUnits) where
@@ -85,3 +88,23 @@ module _ (units : RunUnits) where
         count = λ going. absurd (not_going going);
         done = λ going. absurd (not_going going);
       }
+
+-- what a run's end is made of
+pub is_collected : (units : RunUnits) (n : ℕ) (asked : RunRequest) (old new : Collected) (many : ℕ) → 0 < n → asked.workers ≡ n → IsFreshCollector asked old.collector → many ≡ n → WorkersWereRun units many old new → IsCollected units n new
+is_collected units n asked old new many some workers fresh many_is was =
+    let long : length new.worker_ends.items ≡ vec_len new.worker_ends = sym (new.worker_ends.ok.0) in
+    record {
+      some = some;
+      workers = was.took_more.workers ∙ ap (λ (r : ReceiverView). r.workers) fresh.receiver ∙ workers;
+      width = was.took_more.width ∙ fresh.width ∙ workers;
+      collector = was.collector;
+      none_is_awaited = was.none_is_awaited;
+      each = rw (sym many_is, was.took_more.session) was.each;
+      few = few new.collector.lacks_thread refl;
+      count = λ going. long ∙ was.count going ∙ many_is;
+      done = λ going. rw was.took_more.session (was.done going);
+    }
+  where
+    few : (lacks : Bool) → new.collector.lacks_thread ≡ lacks → length new.worker_ends.items ≤ n
+    few false is = (let all = was.count is in let same = new.worker_ends.ok.0 in omega (arith, all, same, many_is))
+    few true is = (let some = was.lacks_thread fresh.started is in let same = new.worker_ends.ok.0 in omega (arith, some, same, many_is))

@@ -1,40 +1,38 @@
 -- From what each worker left to what a run is.
-use Rattle.std.proofs.Common.{◌≡◌, ◌≢◌, ◌==◌, ℕ, zero, suc, ◌+◌, ◌-◌, ◌<◌, ◌≤◌, Bool, true, false, if◌then◌else◌, cond, List, [], ◌∷◌, ◌++◌, map, length, None, Some, slice_get, get_or, ap, sym, subst, ◌∙◌, refl, arith, inl, inr, ⊎_elim, eq-eqb, ne_eqb}
+use Rattle.std.proofs.Common.{◌≡◌, ◌≢◌, ◌==◌, ℕ, zero, suc, ◌+◌, ◌-◌, ◌<◌, ◌≤◌, Bool, true, false, if◌then◌else◌, cond, List, [], ◌∷◌, ◌++◌, map, length, None, Some, slice_get, get_or, ap, sym, subst, ◌∙◌, refl, arith, ⊎_elim, eq-eqb, ne_eqb}
 use Rattle.std.specs.Prelude.{All, Option, IfSome, slice_index}
 use Rattle.std.proofs.lemmas.Option.{slice_get-get_or}
 use Rattle.std.proofs.lemmas.Bool.{cases_eq}
-use Rattle.std.proofs.lemmas.List.Elements.{All-head, All-tail}
 use Rattle.std.proofs.lemmas.List.{length-map}
 use Rattle.std.proofs.lemmas.List.Sums.{sum_by-cons}
-use Rattle.atomic_table.specs.Seated.{TableId}
 use Rattle.tk_events.specs.declared.events.Event.{Event}
 use Rattle.tk_events.specs.declared.events.Entry.{Entry}
 use Rattle.tk_record.specs.Mixing.{IsWorkerOf, of_worker, Mix}
 use Rattle.tk_queue_core.specs.Core.{entries}
-use Rattle.tk_engine_runs.specs.Claims.{ClaimSeatView, Claims}
+use Rattle.tk_engine_runs.specs.Claims.{ClaimView, ClaimSeatView, Claims}
 use Rattle.tk_queue_session.specs.declared.close_faults.CloseReason.{CloseReason}
 use Rattle.tk_queue_session.specs.declared.close_faults.CloseReason.TheVariants.{Missing, Twice, NotDrained}
 use Rattle.tk_queue_session.specs.Senders.{SenderView as Sent}
 use Rattle.tk_queue_session.specs.Receivers.{ReceiverView, is_marked}
 use Rattle.tk_queue_session.specs.Tokens.{tokens_of, sent_by}
 use Rattle.tk_queue_session.specs.Closing.{ClosedView, IsCloseFault, sent_in}
-use Rattle.tk_engine_runs.specs.Run.{IsShared}
-use Rattle.tk_engine_execute.specs.declared.engines.UnitFault.{UnitFault}
+use Rattle.tk_engine_runs.specs.Run.{Emits}
 use Rattle.tk_engine_execute.specs.declared.workers.WorkerEnd.{WorkerEnd}
 use Rattle.tk_engine_execute.specs.declared.workers.FailedUnit.{FailedUnit}
+use Rattle.tk_engine_execute.specs.declared.worker_parts.WorkerParts.{WorkerParts}
+use Rattle.tk_engine_execute.specs.declared.worker_threads.Collected.{Collected}
 use Rattle.tk_engine_execute.specs.declared.event_collectors.EventCollector.{EventCollector}
-use Rattle.tk_engine_execute.specs.steps.EventCollectors.{CanCollect, NoneIsAwaited}
 use Rattle.tk_engine_execute.specs.Results.{IsTallied}
+use Rattle.tk_engine_execute.specs.Work.{EngineView, StoppedAt, EmittedUntil, IsWork}
+use Rattle.tk_engine_execute.specs.steps.EventCollectors.{CanCollect, NoneIsAwaited}
+use Rattle.tk_engine_execute.specs.steps.Outcomes.{CanClose, failure_in, failures_by}
+use Rattle.tk_engine_execute.specs.steps.WorkerParts.{HasRoomFor, tokens_in, seats_in}
+use Rattle.tk_engine_execute.specs.steps.WorkerThreads.{IsCollected}
+use Rattle.tk_engine_execute.specs.steps.Workers.{RunUnits, run_units, AllDone, IsStopped}
 use Rattle.tk_queue_session.specs.Emission.{entries_by}
+use Rattle.tk_base.proofs.Lists.{All_at}
 use Rattle.tk_engine_runs.proofs.Workers.{in_the_middle}
-use Rattle.tk_engine_execute.specs.declared.run_faults.RunFault.{RunFault}
-use Rattle.tk_engine_execute.specs.declared.run_faults.RunFault.TheVariants as fault
-use Rattle.tk_engine_execute.specs.steps.Outcomes.{AllCompleted, NoneFailed, CanClose}
-use Rattle.tk_engine_execute.specs.steps.Outcomes.{IsFirstFailure, IsFaultOfWorkers}
-use Rattle.tk_engine_execute.specs.steps.Outcomes.{IsFaultOfRunning}
-use Rattle.tk_engine_execute.specs.steps.Workers.{RunUnits, AllDone, AreDone, IsDone}
 use Rattle.tk_engine_execute.proofs.Positions.{map_at, all_from}
-use Rattle.tk_engine_execute.proofs.Emitted.{emits_along}
 
 -- ---- tokens that are numbered from k + 1 on
 
@@ -110,33 +108,33 @@ sessions r ts can = all_from (λ t. t.session ≡ r.session) ts can.session
 
 -- ---- the ends of workers
 
--- the end with a token, and its seat
-token_at : (os : List WorkerEnd) (ts : List Sent) (ss : List ClaimSeatView) → AllCompleted os ts ss → (i : ℕ) (t : Sent) → slice_get ts i ≡ Some t
-    → (o : WorkerEnd) × (slice_get os i ≡ Some o) × (o.failure ≡ None) × (t ≡ o.ended) × (slice_get ss i ≡ Some o.claim_seat)
-token_at [] ts ss (a, b) i t e = let none : slice_get [] i ≡ Some t = rw a at e in cc
-token_at (o ∷ os) ts ss (none, us, rs, a, b, rest) zero t e =
-    let first : slice_get (o.ended ∷ us) 0 ≡ Some t = rw a at e in (o, refl, none, cc, rw b refl)
-token_at (o ∷ os) ts ss (none, us, rs, a, b, rest) (suc i) t e =
-    let later : slice_get (o.ended ∷ us) (suc i) ≡ Some t = rw a at e in
-    let h = token_at os us rs rest i t later in (h.0, h.1, h.2, h.3, rw b (h.4))
+-- the end with a token
+token_at : (os : List WorkerEnd) (i : ℕ) (t : Sent) → slice_get (tokens_in os) i ≡ Some t → (o : WorkerEnd) × (slice_get os i ≡ Some o) × (t ≡ o.ended)
+token_at os i t e = map_at (λ (o : WorkerEnd). o.ended) os i t e
 
--- the end with a seat, and its token
-pub seat_at : (os : List WorkerEnd) (ts : List Sent) (ss : List ClaimSeatView) → AllCompleted os ts ss → (i : ℕ) (s : ClaimSeatView) → slice_get ss i ≡ Some s
-    → (o : WorkerEnd) × (slice_get os i ≡ Some o) × (o.failure ≡ None) × (s ≡ o.claim_seat) × (slice_get ts i ≡ Some o.ended)
-seat_at [] ts ss (a, b) i s e = let none : slice_get [] i ≡ Some s = rw b at e in cc
-seat_at (o ∷ os) ts ss (none, us, rs, a, b, rest) zero s e =
-    let first : slice_get (o.claim_seat ∷ rs) 0 ≡ Some s = rw b at e in (o, refl, none, cc, rw a refl)
-seat_at (o ∷ os) ts ss (none, us, rs, a, b, rest) (suc i) s e =
-    let later : slice_get (o.claim_seat ∷ rs) (suc i) ≡ Some s = rw b at e in
-    let h = seat_at os us rs rest i s later in (h.0, h.1, h.2, h.3, rw a (h.4))
+-- the end with a seat
+seat_at : (os : List WorkerEnd) (i : ℕ) (s : ClaimSeatView) → slice_get (seats_in os) i ≡ Some s → (o : WorkerEnd) × (slice_get os i ≡ Some o) × (s ≡ o.claim_seat)
+seat_at os i s e = map_at (λ (o : WorkerEnd). o.claim_seat) os i s e
 
-length-tokens : (os : List WorkerEnd) (ts : List Sent) (ss : List ClaimSeatView) → AllCompleted os ts ss → length ts ≡ length os
-length-tokens [] ts ss (a, b) = ap (λ l. length l) a
-length-tokens (o ∷ os) ts ss (none, us, rs, a, b, rest) = ap (λ l. length l) a ∙ ap suc (length-tokens os us rs rest)
+-- the token of an end
+token_of : (os : List WorkerEnd) (i : ℕ) (o : WorkerEnd) → slice_get os i ≡ Some o → slice_get (tokens_in os) i ≡ Some o.ended
+token_of [] i o e = cc
+token_of (x ∷ os) zero o e = let same : x ≡ o = cc in ap (λ (y : WorkerEnd). Some y.ended) same
+token_of (x ∷ os) (suc i) o e = token_of os i o e
 
-pub length-seats : (os : List WorkerEnd) (ts : List Sent) (ss : List ClaimSeatView) → AllCompleted os ts ss → length ss ≡ length os
-length-seats [] ts ss (a, b) = ap (λ l. length l) b
-length-seats (o ∷ os) ts ss (none, us, rs, a, b, rest) = ap (λ l. length l) b ∙ ap suc (length-seats os us rs rest)
+-- the failure of the worker of an end
+failure_at : (k i : ℕ) (os : List WorkerEnd) (o : WorkerEnd) → Numbered k (tokens_in os) → slice_get os i ≡ Some o → failures_by os (k + i + 1) ≡ failure_in o.failure
+failure_at k i [] o h e = cc
+failure_at k zero (x ∷ os) o h e =
+    let own : x.ended.worker ≡ k + 0 + 1 = h 0 x.ended refl in
+    let same : x ≡ o = cc in
+    ap (λ (b : Bool). if b then failure_in x.failure else failures_by os (k + 0 + 1)) (eq-eqb x.ended.worker (k + 0 + 1) own) ∙ ap (λ (y : WorkerEnd). failure_in y.failure) same
+failure_at k (suc i) (x ∷ os) o h e =
+    let own : x.ended.worker ≡ k + 0 + 1 = h 0 x.ended refl in
+    let other : x.ended.worker ≢ k + suc i + 1 = λ same. absurd (omega (arith, own, same)) in
+    let n : k + suc i + 1 ≡ suc k + i + 1 = omega arith in
+    ap (λ (b : Bool). if b then failure_in x.failure else failures_by os (k + suc i + 1)) (ne_eqb x.ended.worker (k + suc i + 1) other) ∙ ap (failures_by os) n
+    ∙ failure_at (suc k) i os o (tail k x.ended (tokens_in os) h) e
 
 -- ---- the end of a run
 
@@ -147,48 +145,91 @@ all_marked a collector none_is_awaited going i within =
     let gone : get_or a.awaited.items i true ≡ false = none_is_awaited i (get_or a.awaited.items i true) here in
     collector.marked going i (here ∙ ap Some gone)
 
-module _ (units : RunUnits) (many workers : ℕ) (os : List WorkerEnd) (ts : List Sent) (ss : List ClaimSeatView) (whole : AllCompleted os ts ss) (count : length os ≡ workers) where
-  pub can_close : (a : EventCollector) → CanCollect a → NoneIsAwaited a → a.lacks_thread ≡ false → length a.awaited.items ≡ workers → a.receiver.workers ≡ workers
-      → AllDone units a.receiver.session os → CanClose a.receiver ts
-  can_close a collector none_is_awaited going width is_workers done = record {
-    session = λ i t e. let h = token_at os ts ss whole i t e in ap (λ (x : Sent). x.session) (h.3) ∙ (done i (h.0) (h.1)).session_is;
-    count = length-tokens os ts ss whole ∙ count ∙ sym is_workers;
-    workers = λ i t e. let h = token_at os ts ss whole i t e in ap (λ (x : Sent). x.worker) (h.3) ∙ (done i (h.0) (h.1)).worker;
-    marks = λ i within. all_marked a collector none_is_awaited going i (omega arith);
+module _ (e : EngineView) (claim : ClaimView) (n : ℕ) (t : Collected) (c : IsCollected (run_units claim e.may e.units e.fails) n t) (going : t.collector.lacks_thread ≡ false) where
+  abbrev units : RunUnits
+  units = run_units claim e.may e.units e.fails
+
+  abbrev os : List WorkerEnd
+  os = t.worker_ends.items
+
+  done : AllDone units t.collector.receiver.session os
+  done = c.done going
+
+  long : length os ≡ n
+  long = c.count going
+
+  pub can_close : CanClose t.collector.receiver (tokens_in os)
+  can_close = record {
+    session = λ i s e. let h = token_at os i s e in ap (λ (x : Sent). x.session) h.2 ∙ (done i h.0 h.1).session_is;
+    count = length-map os (λ (o : WorkerEnd). o.ended) ∙ long ∙ sym c.workers;
+    workers = λ i s e. let h = token_at os i s e in ap (λ (x : Sent). x.worker) h.2 ∙ (done i h.0 h.1).worker;
+    marks = λ i within. let width = c.width in let workers = c.workers in all_marked t.collector c.collector c.none_is_awaited going i (omega (arith, within, width, workers));
   }
 
-  pub of_claim : (session : TableId) → AllDone units session os → All (λ s. s.claim ≡ units.claim) ss
-  of_claim session done = all_from (λ s. s.claim ≡ units.claim) ss (λ i s e. let h = seat_at os ts ss whole i s e in ap (λ (x : ClaimSeatView). x.claim) (h.3) ∙ (done i (h.0) (h.1)).claim_is)
+  pub seats_of_claim : All (λ s. s.claim ≡ units.claim) (seats_in os)
+  seats_of_claim = all_from (λ s. s.claim ≡ units.claim) (seats_in os) (λ i s e. let h = seat_at os i s e in ap (λ (x : ClaimSeatView). x.claim) h.2 ∙ (done i h.0 h.1).claim_is)
 
-  -- what the workers of a run share
-  pub shared : (r : ReceiverView) (drew : ℕ) → 0 < workers → r.workers ≡ workers → CanClose r ts → Mix r.workers (entries r.taken) (sent_by ts) → AllDone units r.session os
-      → Claims (map (λ (s : ClaimSeatView). s.numbers) ss) drew → ((i : ℕ) (s : ClaimSeatView) → slice_get ss i ≡ Some s → s.spent ≡ true → drew ≡ many)
-      → IsShared units.may many workers (entries r.taken)
-  shared r drew some is_workers can mix done claims spent =
-      let seats : length ss ≡ workers = length-seats os ts ss whole ∙ count in
-      let first : (s : ClaimSeatView) × (slice_get ss 0 ≡ Some s) = first_of ss (omega arith) in
-      let h = seat_at os ts ss whole 0 (first.0) (first.1) in
-      let stated : first.0.spent ≡ true = ap (λ (x : ClaimSeatView). x.spent) (h.3) ∙ (done 0 (h.0) (h.1)).all (h.2) in
-      let all : drew ≡ many = spent 0 (first.0) (first.1) stated in
-      record {
-        drawn = map (λ (s : ClaimSeatView). s.numbers) ss;
-        lists = sent_by ts;
-        seats = length-map ss (λ (s : ClaimSeatView). s.numbers) ∙ seats;
-        claims = rw all at claims;
-        mix = rw is_workers at mix;
-        emits = λ i us e.
-            let s = map_at (λ (s : ClaimSeatView). s.numbers) ss i us e in
-            let o = seat_at os ts ss whole i (s.0) (s.1) in
-            let one = done i (o.0) (o.1) in
-            let us_is : us ≡ o.0.claim_seat.numbers = s.2 ∙ ap (λ (x : ClaimSeatView). x.numbers) (o.3) in
-            let l_is : sent_by ts (0 + i + 1) ≡ o.0.ended.sent = list_at 0 i ts o.0.ended (numbered r ts can) (o.4) in
-            let n : 0 + i + 1 ≡ i + 1 = omega arith in
-            emits_along units.may (i + 1) (i + 1) us o.0.claim_seat.numbers (sent_by ts (i + 1)) o.0.ended.sent refl us_is (rw n at l_is) (one.emits (o.2));
-      }
+  pub as_many_seats : length (seats_in os) ≡ n
+  as_many_seats = length-map os (λ (o : WorkerEnd). o.claim_seat) ∙ long
+
+  numbers : Numbered 0 (tokens_in os)
+  numbers = numbered t.collector.receiver (tokens_in os) can_close
+
+  -- the end of a worker
+  end_of : (w : ℕ) → IsWorkerOf n w → (i : ℕ) × (o : WorkerEnd) × (slice_get os i ≡ Some o) × (w ≡ 0 + i + 1)
+  end_of w own =
+      let positive = own.0 in
+      let few = own.1 in
+      let o = element os (w - 1) (omega (arith, positive, few, long)) in
+      (w - 1, o.0, o.1, omega (arith, positive))
     where
-      first_of : (xs : List ClaimSeatView) → 0 < length xs → (s : ClaimSeatView) × (slice_get xs 0 ≡ Some s)
-      first_of [] some = absurd (omega arith)
-      first_of (x ∷ xs) some = (x, refl)
+      element : (xs : List WorkerEnd) (i : ℕ) → i < length xs → (o : WorkerEnd) × (slice_get xs i ≡ Some o)
+      element [] i within = absurd (omega (arith, within))
+      element (x ∷ xs) zero within = (x, refl)
+      element (x ∷ xs) (suc i) within = element xs i (omega (arith, within))
+
+  -- what the workers of a run did
+  pub work : (many : ℕ) → Mix t.collector.receiver.workers (entries t.collector.receiver.taken) (sent_by (tokens_in os)) → Claims (map (λ (s : ClaimSeatView). s.numbers) (seats_in os)) many
+      → All (λ s. s.spent ≡ true → many ≡ e.units) (seats_in os) → IsWork e n (failures_by os) (entries t.collector.receiver.taken)
+  work many mix claims spent = record {
+    drawn = map (λ (s : ClaimSeatView). s.numbers) (seats_in os);
+    many = many;
+    lists = sent_by (tokens_in os);
+    seats = length-map (seats_in os) (λ (s : ClaimSeatView). s.numbers) ∙ as_many_seats;
+    claims = claims;
+    all = λ w own none.
+        let o = end_of w own in
+        let same : failures_by os w ≡ failure_in o.1.failure = ap (failures_by os) o.3 ∙ failure_at 0 o.0 os o.1 numbers o.2 in
+        let stated : o.1.claim_seat.spent ≡ true = (done o.0 o.1 o.2).all (no_failure o.1.failure (sym same ∙ none)) in
+        All_at (λ (s : ClaimSeatView). s.spent ≡ true → many ≡ e.units) (seats_in os) o.0 o.1.claim_seat spent (seat_of os o.0 o.1 o.2) stated;
+    mix = rw c.workers at mix;
+    emitted = λ i us at.
+        let s = map_at (λ (s : ClaimSeatView). s.numbers) (seats_in os) i us at in
+        let o = seat_at os i s.0 s.1 in
+        let one = done i o.0 o.1 in
+        let us_is : us ≡ o.0.claim_seat.numbers = s.2 ∙ ap (λ (x : ClaimSeatView). x.numbers) o.2 in
+        let k : 0 + i + 1 ≡ i + 1 = omega arith in
+        let list_is : sent_by (tokens_in os) (i + 1) ≡ o.0.ended.sent = ap (sent_by (tokens_in os)) (sym k) ∙ list_at 0 i (tokens_in os) o.0.ended numbers (token_of os i o.0 o.1) in
+        let failure_is : failures_by os (i + 1) ≡ failure_in o.0.failure = ap (failures_by os) (sym k) ∙ failure_at 0 i os o.0 numbers o.1 in
+        rw (us_is, list_is, failure_is) (emitted_until (i + 1) o.0 one.worker o.0.failure refl one.emits one.stopped);
+  }
+    where
+      no_failure : (f : Option FailedUnit) → failure_in f ≡ None → f ≡ None
+      no_failure None h = refl
+      no_failure (Some f) h = cc
+
+      seat_of : (os : List WorkerEnd) (i : ℕ) (o : WorkerEnd) → slice_get os i ≡ Some o → slice_get (seats_in os) i ≡ Some o.claim_seat
+      seat_of [] i o at = cc
+      seat_of (x ∷ os) zero o at = let same : x ≡ o = cc in ap (λ (y : WorkerEnd). Some y.claim_seat) same
+      seat_of (x ∷ os) (suc i) o at = seat_of os i o at
+
+      emitted_until : (w : ℕ) (o : WorkerEnd) → o.ended.worker ≡ w → (f : Option FailedUnit) → o.failure ≡ f
+          → (o.failure ≡ None → Emits e.may w 0 o.claim_seat.numbers o.ended.sent) → IfSome o.failure (λ f. IsStopped e.may o.ended o.claim_seat f.unit)
+          → EmittedUntil e.may w o.claim_seat.numbers o.ended.sent (failure_in f)
+      emitted_until w o worker None is emits stopped = emits is
+      emitted_until w o worker (Some f) is emits stopped =
+          let here : IsStopped e.may o.ended o.claim_seat f.unit = subst (λ (x : Option FailedUnit). IfSome x (λ g. IsStopped e.may o.ended o.claim_seat g.unit)) is stopped in
+          subst (λ v. StoppedAt e.may v o.claim_seat.numbers o.ended.sent f.unit) worker here.stopped
 
 -- what a closed session knows, as `close` gives it
 pub tallied :
@@ -202,35 +243,6 @@ tallied n closed es ls mix sent each others = record {
   others = others;
 }
 
--- ---- why a run has no record
-
-module _ (units : RunUnits) (session : TableId) where
-  first_may_fail : (os : List WorkerEnd) (u : ℕ) (why : UnitFault) → All (λ o. IsDone units session o.ended.worker o) os → IsFirstFailure os u why → units.fails u why
-  first_may_fail [] u why all h = absurd h
-  first_may_fail (o ∷ os) u why all (inl is) = let one = (All-head (λ o. IsDone units session o.ended.worker o) o os all).failed in subst (λ (f : Option FailedUnit). IfSome f (λ g. units.fails g.unit g.why)) is one
-  first_may_fail (o ∷ os) u why all (inr h) = first_may_fail os u why (All-tail (λ o. IsDone units session o.ended.worker o) o os all) h.1
-
-  pub is_running : (workers : ℕ) (a : EventCollector) (os : List WorkerEnd) (f : RunFault) → AreDone units session workers os → IsFaultOfWorkers a os f → IsFaultOfRunning units.fails f
-  is_running workers a os fault.Workers done why = absurd why
-  is_running workers a os fault.Capacity done why = absurd why
-  is_running workers a os (fault.Engine unit cause) done why = first_may_fail os unit cause done.each why
-  is_running workers a os fault.Memory done why = tt
-  is_running workers a os fault.Threads done why = tt
-
-module _ (may_fail : ℕ → UnitFault → Type 0) where
-  -- memory was refused before a thread was started or after all were joined
-  pub out_of_memory : (f : RunFault) → f ≡ fault.Memory → IsFaultOfRunning may_fail f
-  out_of_memory f is = rw is tt
-
-  -- the unit of the answer may fail so
-  pub unit_may_fail : (f : RunFault) → IsFaultOfRunning may_fail f → (u : ℕ) (why : UnitFault) → f ≡ fault.Engine u why → may_fail u why
-  unit_may_fail f h u why is = subst (λ (r : RunFault). IsFaultOfRunning may_fail r) is h
-
--- where each end has its token and its seat, none failed
-pub none_failed : (os : List WorkerEnd) (ts : List Sent) (ss : List ClaimSeatView) → AllCompleted os ts ss → NoneFailed os
-none_failed [] ts ss h = tt
-none_failed (o ∷ os) ts ss h = (h.0, none_failed os h.1 h.2 h.5)
-
 -- what a worker has in a run, it has in the middle
 pub tallied_whole :
     (n : ℕ) (closed : ClosedView) (before after : List Event) (mid whole : List Entry)
@@ -243,3 +255,9 @@ tallied_whole n closed before after mid whole is tally =
       each = λ w own. tally.each w own ∙ ap (λ l. length l) (sym (same w own));
       others = tally.others;
     }
+
+-- room for the parts of n workers is room for those of fewer
+pub room_for_fewer : (m n : ℕ) (p : WorkerParts) → m ≤ n → HasRoomFor n p → HasRoomFor m p
+room_for_fewer m n p few room =
+    let tokens = room.token_room in
+    let seats = room.seat_room in record { tokens = room.tokens; seats = room.seats; failure = room.failure; token_room = omega (arith, few, tokens); seat_room = omega (arith, few, seats) }

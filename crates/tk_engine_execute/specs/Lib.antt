@@ -1,8 +1,12 @@
 pub use Rattle.tk_engine_runs.specs.Claims
 pub use Rattle.tk_engine_runs.specs.Run
 pub mod Engines
+pub mod FailedRuns
+pub mod Faults
 pub mod Grown
+pub mod Prefix
 pub mod Results
 pub mod Sinks
 pub mod FaultTexts
+pub mod Work
 pub mod steps

@@ -1,5 +1,6 @@
 pub mod EventCollectors
 pub mod Outcomes
 pub mod PreparedRuns
+pub mod WorkerParts
 pub mod WorkerThreads
 pub mod Workers

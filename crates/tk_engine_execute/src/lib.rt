@@ -5,6 +5,7 @@
 mod closing;
 mod engines;
 mod event_collectors;
+mod failed_runs;
 pub mod laws;
 mod prepared_runs;
 mod results;
@@ -12,11 +13,13 @@ mod run_faults;
 mod runs;
 mod sinks;
 mod unstarted_workers;
+mod worker_parts;
 mod worker_threads;
 mod workers;
 
 pub use engines::{Engine, MAX_UNITS, OUT_OF_ORDER, TWICE, UnitFault};
+pub use failed_runs::FailedRun;
 pub use results::Results;
 pub use run_faults::RunFault;
-pub use runs::execute;
+pub use runs::{execute, execute_keeping_record};
 pub use sinks::{Sink, SinkFault};

@@ -34,25 +34,6 @@ pub(crate) struct WorkerEnd {
     pub failure: Option<FailedUnit>,
 }
 
-impl WorkerEnd {
-    /// Returns the token and the seat of a worker that had no failure, or its failure.
-    pub(crate) fn into_parts(self) -> Result<(Ended, ClaimSeat), FailedUnit>
-        ensures ok { IfOk result (λ r.
-            (self.failure ≡ None) × (r.0 ≡ self.ended) × (r.1 ≡ self.claim_seat)) }
-        ensures err { IfErr result (λ failed. self.failure ≡ Some failed) }
-    {
-        let WorkerEnd {
-            ended,
-            claim_seat,
-            failure,
-        } = self;
-        match failure {
-            None => Ok((ended, claim_seat)),
-            Some(failed) => Err(failed),
-        }
-    }
-}
-
 // Runs a unit while the worker's seat of the book holds its need.
 fn run_unit<R: Wait, E: Engine>(
     rt: &R,

@@ -24,6 +24,7 @@ use Rattle.tk_queue_session.specs.Limits.{capacity_of}
 use Rattle.tk_engine_execute.specs.declared.event_collectors.EventCollector.{EventCollector}
 use Rattle.tk_engine_execute.specs.declared.prepared_runs.PreparedRun.{PreparedRun}
 use Rattle.tk_engine_execute.specs.Engines.{AreOfWorkerZero}
+use Rattle.tk_engine_execute.specs.steps.WorkerParts.{HasRoomFor}
 use Rattle.tk_engine_execute.specs.steps.Workers.{shared_parts, AreUnstarted}
 
 -- a number of workers that a run may have
@@ -58,7 +59,8 @@ pub record IsFreshCollector (asked : RunRequest) (a : EventCollector) : Type 0 w
   pub room : a.is_out_of_memory ≡ false
   pub started : a.lacks_thread ≡ false
 
--- a claim on the units, a book, workers who have done nothing, and room for the end of each
+-- a claim on the units, a book, workers who have done nothing, and room for the end of each and its
+-- parts
 pub record IsPreparedRun (asked : RunRequest) (s : PreparedRun) : Type 0 where
   pub limit : s.claim.limit ≡ asked.units
   pub seats : s.claim.seats ≡ asked.workers
@@ -69,3 +71,4 @@ pub record IsPreparedRun (asked : RunRequest) (s : PreparedRun) : Type 0 where
   pub collector : IsFreshCollector asked s.collected.collector
   pub empty : vec_len s.collected.worker_ends ≡ 0
   pub room : asked.workers ≤ vec_capacity s.collected.worker_ends
+  pub parts : HasRoomFor asked.workers s.parts

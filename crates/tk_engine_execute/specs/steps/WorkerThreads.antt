@@ -1,5 +1,5 @@
 -- The workers of a run, before their threads start and after all threads were joined.
-use Rattle.std.specs.Prelude.{◌≡◌, ℕ, ◌<◌, ◌≤◌, true, false, vec_len, vec_capacity}
+use Rattle.std.specs.Prelude.{◌≡◌, ℕ, ◌<◌, ◌≤◌, true, false, length, vec_len, vec_capacity}
 use Rattle.tk_engine_execute.specs.declared.unstarted_workers.UnstartedWorkers.{UnstartedWorkers}
 use Rattle.tk_engine_execute.specs.declared.worker_threads.Collected.{Collected}
 use Rattle.tk_engine_execute.specs.steps.EventCollectors.{TookMore, CanCollect, NoneIsAwaited}
@@ -29,3 +29,18 @@ pub record WorkersWereRun (units : RunUnits) (n : ℕ) (old new : Collected) : T
   pub done :
       new.collector.lacks_thread ≡ false
       → AllDone units old.collector.receiver.session new.worker_ends.items
+
+-- The threads of the workers 1 to n were joined, and no worker is awaited any more. The ends are what
+-- the workers have left, where a thread was started for each there is one of each.
+pub record IsCollected (units : RunUnits) (n : ℕ) (t : Collected) : Type 0 where
+  pub some : 0 < n
+  pub workers : t.collector.receiver.workers ≡ n
+  pub width : length t.collector.awaited.items ≡ n
+  pub collector : CanCollect t.collector
+  pub none_is_awaited : NoneIsAwaited t.collector
+  pub each : AreDone units t.collector.receiver.session n t.worker_ends.items
+  pub few : length t.worker_ends.items ≤ n
+  pub count : t.collector.lacks_thread ≡ false → length t.worker_ends.items ≡ n
+  pub done :
+      t.collector.lacks_thread ≡ false
+      → AllDone units t.collector.receiver.session t.worker_ends.items

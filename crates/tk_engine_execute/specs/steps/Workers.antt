@@ -1,32 +1,16 @@
 -- What a worker has when it starts and when it has ended.
-use Rattle.std.specs.Prelude.{
-  ◌≡◌,
-  ℕ,
-  ◌+◌,
-  ◌<◌,
-  ◌≤◌,
-  true,
-  false,
-  List,
-  [],
-  ◌∷◌,
-  ◌++◌,
-  length,
-  None,
-  Some,
-  IfSome,
-  All,
-  slice_get,
-}
+use Rattle.std.specs.Prelude.{◌≡◌, ℕ, ◌+◌, ◌<◌, true, false, List, [], ◌∷◌, ◌++◌, length, None, Some, IfSome, All, slice_get}
 use Rattle.std.specs.List.{AllPairs}
 use Rattle.atomic_table.specs.Seated.{TableId}
 use Rattle.tk_ids.specs.declared.descriptors.Descriptor.{Descriptor}
 use Rattle.tk_events.specs.declared.events.Event.{Event}
+use Rattle.tk_record.specs.Mixing.{IsWorkerOf}
 use Rattle.tk_locks.specs.Books.{BookView, empty}
 use Rattle.tk_engine_runs.specs.Claims.{ClaimView, ClaimSeatView, fresh}
 use Rattle.tk_queue_session.specs.Senders.{SenderView, fresh_senders}
 use Rattle.tk_engine_runs.specs.Run.{Emits}
 use Rattle.tk_engine_execute.specs.Engines.{MayFail}
+use Rattle.tk_engine_execute.specs.Work.{StoppedAt}
 use Rattle.tk_engine_execute.specs.declared.engines.UnitFault.{UnitFault}
 use Rattle.tk_engine_execute.specs.declared.workers.WorkerHandles.{WorkerHandles}
 use Rattle.tk_engine_execute.specs.declared.workers.WorkerEnd.{WorkerEnd}
@@ -62,17 +46,11 @@ pub record IsReady (shared : SharedParts) (h : WorkerHandles) : Type 0 where
   pub book_is : h.book_seat.book ≡ shared.book
   pub holds : h.book_seat.holds ≡ None
 
--- A unit is the last that a worker drew, and the worker has not found that there are no more. The
--- units before it emitted a prefix of what the worker emitted.
+-- A worker stopped at a unit that failed, and has not found that there are no more.
 pub record IsStopped (may : ℕ → ℕ → ℕ → List Event → Type 0) (sender : SenderView)
     (seat : ClaimSeatView) (unit : ℕ) : Type 0 where
-  pub earlier : List ℕ
-  pub prefix : List Event
-  pub more : List Event
-  pub drawn : seat.numbers ≡ earlier ++ unit ∷ []
   pub unspent : seat.spent ≡ false
-  pub emitted : sender.sent ≡ prefix ++ more
-  pub emits : Emits may sender.worker 0 earlier prefix
+  pub stopped : StoppedAt may sender.worker seat.numbers sender.sent unit
 
 -- What worker w has left: its token, its seat, and where no unit failed, the list that the units
 -- that it drew may emit. A unit that failed is one that may fail so, and the worker stopped at it.
@@ -110,5 +88,5 @@ AllDone units session worker_ends =
 pub record AreDone (units : RunUnits) (session : TableId) (n : ℕ) (worker_ends : List WorkerEnd)
     : Type 0 where
   pub each : All (λ o. IsDone units session o.ended.worker o) worker_ends
-  pub few : All (λ o. o.ended.worker ≤ n) worker_ends
+  pub few : All (λ o. IsWorkerOf n o.ended.worker) worker_ends
   pub rising : AllPairs (λ a b. a.ended.worker < b.ended.worker) worker_ends

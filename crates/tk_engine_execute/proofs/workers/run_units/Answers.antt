@@ -9,13 +9,15 @@ pub returns-in-Err-clause-stopped : goal.returns-in-Err-clause-stopped
 returns-in-Err-clause-stopped g c =
     let was = c.loop.invariant in
     let ran = c.in-Err.ensures.err in record {
-      earlier = c.loop.handles.claim_seat.numbers;
-      prefix = c.loop.handles.sender.sent;
-      more = ran.0;
-      drawn = ap (λ (seat : ClaimSeatView). seat.numbers) c.run_unit.ensures.drawn ∙ c.in-Some-draw.ensures.drawn;
       unspent = ap (λ (seat : ClaimSeatView). seat.spent) c.run_unit.ensures.drawn ∙ c.in-Some-draw.ensures.more;
-      emitted = ran.1;
-      emits = rw (c.run_unit.ensures.same.worker ∙ was.same.worker) was.emits;
+      stopped = record {
+        earlier = c.loop.handles.claim_seat.numbers;
+        prefix = c.loop.handles.sender.sent;
+        rest = ran.0;
+        last = ap (λ (seat : ClaimSeatView). seat.numbers) c.run_unit.ensures.drawn ∙ c.in-Some-draw.ensures.drawn;
+        cut = ran.1;
+        emits = rw (c.run_unit.ensures.same.worker ∙ was.same.worker) was.emits;
+      };
     }
 
 pub loop-preserved : goal.loop-preserved
