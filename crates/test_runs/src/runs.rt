@@ -4,7 +4,7 @@ use std::alloc::Global;
 use std::sync::Wait;
 use std::thread::Threads;
 use tk_engine_execute::{
-    FailedRun, Results, RunFault, UnitFault, execute, execute_keeping_record,
+    FailedRun, Results, RunFault, UnitFault, execute, execute_keeping_record, execute_many,
 };
 use tk_locks::Need;
 use tk_record::Record;
@@ -206,6 +206,20 @@ fn run_keeping_record<R: Threads + Wait + Sync>(
     }
 }
 
+// Whether `execute_many` finds a run of these units of which the check is false, where the check is
+// false of every run, or true of every one.
+fn finds_failed_run<R: Threads + Wait + Sync>(
+    rt: &R,
+    alloc: Global,
+    units: &Units<'_>,
+    passes: bool,
+) -> Option<bool> {
+    let engine = engine(alloc, units)?;
+    let check = |_results: &Results| passes;
+    let found = execute_many(rt, alloc, &engine, 2, 64, 3, &check).ok()?;
+    Some(found.is_some())
+}
+
 #[test]
 fn one_to_fifteen_workers_run_all_units(rt: HostRuntime) {
     let steps = [UnitStep::Start(0), UnitStep::Start(1)];
@@ -308,6 +322,16 @@ fn a_failed_run_keeps_its_record(rt: HostRuntime) {
     assert!(rt; matches!(kept, Some((2, 1, 2, true))));
     let refused = run_keeping_record(&rt, rt.alloc(), &units, 0);
     assert!(rt; refused.is_none());
+}
+
+/// Many runs end at the first of which the check is false.
+#[test]
+fn many_runs_end_where_the_check_is_false(rt: HostRuntime) {
+    let units = Units::alike(2, &[UnitStep::Start(0)]);
+    let found = finds_failed_run(&rt, rt.alloc(), &units, false);
+    assert!(rt; matches!(found, Some(true)));
+    let none = finds_failed_run(&rt, rt.alloc(), &units, true);
+    assert!(rt; matches!(none, Some(false)));
 }
 
 #[test]

@@ -7,6 +7,7 @@ mod engines;
 mod event_collectors;
 mod failed_runs;
 pub mod laws;
+mod many_runs;
 mod prepared_runs;
 mod results;
 mod run_faults;
@@ -19,6 +20,7 @@ mod workers;
 
 pub use engines::{Engine, MAX_UNITS, OUT_OF_ORDER, TWICE, UnitFault};
 pub use failed_runs::FailedRun;
+pub use many_runs::execute_many;
 pub use results::Results;
 pub use run_faults::RunFault;
 pub use runs::{execute, execute_keeping_record};
