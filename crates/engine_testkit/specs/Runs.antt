@@ -4,7 +4,8 @@ pub use Rattle.tk_engine_execute.specs.Faults.{IsFaultOfRun}
 pub use Rattle.tk_engine_execute.specs.Results.{IsTallied}
 pub use Rattle.tk_engine_execute.specs.Work.{engine_view}
 pub use Rattle.tk_engine_runs.specs.Run.{IsRun}
-pub use Rattle.tk_engine_unit_events.specs.Refusals.{IsChildCause, IsPublishCause, child_start}
+pub use Rattle.tk_engine_unit_events.specs.Refusals.{IsChildCause, IsInnermostCause, IsPublishCause}
+pub use Rattle.tk_engine_unit_events.specs.Refusals.{child_start}
 pub use Rattle.tk_engine_unit_events.specs.Shapes.{count_units}
 pub use Rattle.tk_engine_unit_events.specs.Taken.{IsFaultOfTaken, IsTaken}
 pub use Rattle.tk_queue_session.specs.Limits.{capacity_of}

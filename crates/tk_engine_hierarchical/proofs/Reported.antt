@@ -1,7 +1,7 @@
 -- What a reporter's calls promise.
-use Rattle.std.proofs.Common.{◌≡◌, ◌≤◌, inr, ℕ, List, sym, ap}
+use Rattle.std.proofs.Common.{◌≡◌, ◌≤◌, ◌⊎◌, inl, inr, ℕ, List, refl, sym, ap}
 use Rattle.std.proofs.Common.{◌∙◌, subst}
-use Rattle.std.specs.Prelude.{Result, OnOk, Option}
+use Rattle.std.specs.Prelude.{Err, IfErr, IfOk, Ok, OnOk, Option, Result}
 use Rattle.tk_ids.specs.IdText.{SegmentView}
 use Rattle.tk_ids.specs.declared.descriptors.DType.TheVariants.{Test}
 use Rattle.tk_events.specs.declared.kinds.Kind.TheVariants.{Finished, Skipped, Started}
@@ -12,16 +12,17 @@ use Rattle.tk_queue_session.specs.Senders.{sends}
 use Rattle.tk_engine_execute.specs.Engines.{Extends}
 use Rattle.tk_engine_execute.specs.declared.engines.UnitFault.{UnitFault}
 use Rattle.tk_engine_unit_events.specs.Endings.{payload_of}
-use Rattle.tk_engine_unit_events.specs.Refusals.{IsChildCause, child_start}
+use Rattle.tk_engine_unit_events.specs.Refusals.{IsChildCause, IsInnermostCause, child_start}
 use Rattle.tk_engine_unit_events.specs.Standing.{BegunUnit}
-use Rattle.tk_engine_unit_events.specs.UnitSteps.{BodyRuns, ChildView, HasFinished}
+use Rattle.tk_engine_unit_events.specs.UnitSteps.{BodyFails, BodyRuns, ChildView, HasFinished}
 use Rattle.tk_engine_unit_events.specs.UnitSteps.{HasSkipped, HasStarted, UnitView, child}
 use Rattle.tk_engine_unit_events.specs.UnitSteps.{child_request, event}
 use Rattle.tk_engine_hierarchical.specs.Causes.{first_cause}
-use Rattle.tk_engine_hierarchical.specs.Reporting.{EndsChild, HasBegunChild, HasBegunDynamic}
-use Rattle.tk_engine_hierarchical.specs.Reporting.{HasFailedDynamic, HasRunChild}
+use Rattle.tk_engine_hierarchical.specs.Reporting.{EndsChild, FailsOrDrops, HasBegunChild}
+use Rattle.tk_engine_hierarchical.specs.Reporting.{HasBegunDynamic, HasFailedDynamic, HasRunChild}
+use Rattle.tk_engine_hierarchical.specs.Reporting.{HasStoppedDynamic, IsUnfinished}
 use Rattle.tk_engine_unit_events.specs.declared.outcomes.Outcome.{Outcome}
-use Rattle.tk_engine_unit_events.proofs.UnitSteps.{on_ok}
+use Rattle.tk_engine_unit_events.proofs.UnitSteps.{if_err, on_ok}
 
 pub has_run_child : (may_run : BodyRuns) (old started before new : UnitView)
     (ask : ℕ → RegisterRequest) (key given stamp : ℕ) (outcome : Outcome) → given ≡ stamp
@@ -72,6 +73,60 @@ pub failed_begun : (old started new : UnitView) (c : ChildView) (kept now : Opti
     → HasFailedDynamic old new c kept now why
 failed_begun old started new c kept now why above key given same s x cause =
     inr (begun old started new c above key given same s x, cause)
+
+-- a body failed, or answered an outcome and had dropped the fault of a child
+pub fails_or_drops : (may_run : BodyRuns) (may_fail : BodyFails) (old new after : UnitView)
+    (answer how : Result Outcome UnitFault) → after ≡ new
+    → IfOk answer (may_run old new) → IfErr answer (may_fail old new)
+    → ((why : UnitFault) → answer ≡ Err why → how ≡ Err why)
+    → IfErr how (FailsOrDrops may_run may_fail old after)
+fails_or_drops may_run may_fail old new after (Ok outcome) how same ran failed fault =
+    if_err (FailsOrDrops may_run may_fail old after) how
+    (λ why. inr (outcome, subst (λ v. may_run old v outcome) (sym same) ran))
+fails_or_drops may_run may_fail old new after (Err why) how same ran failed fault =
+    subst (λ r. IfErr r (FailsOrDrops may_run may_fail old after)) (sym (fault why refl))
+    (inl (subst (λ v. may_fail old v why) (sym same) failed))
+
+-- a child's body ran, and the child's finish was refused
+pub unfinished : (may_run : BodyRuns) (started ran mid new : UnitView) (key : ℕ)
+    (outcome : Outcome) (why : UnitFault) → mid ≡ ran → new ≡ mid → may_run started ran outcome
+    → IsInnermostCause mid (event Finished key mid.stamp (payload_of outcome)) why
+    → IsUnfinished may_run started new key why
+unfinished may_run started ran mid new key outcome why first last runs refused = record {
+  outcome = outcome;
+  ran = subst (λ v. may_run started v outcome) (sym (last ∙ first)) runs;
+  refused = subst (λ (v : UnitView). IsInnermostCause v
+      (event Finished key v.stamp (payload_of outcome)) why) (sym last) refused;
+}
+
+-- a child began, and this is why it stopped
+pub stopped : (may_run : BodyRuns) (may_fail : BodyFails) (old started new : UnitView)
+    (c : ChildView) (why : UnitFault) (above key given : ℕ)
+    → given ≡ old.stamp → HasStarted old started (child_request c above given)
+    (event Started key given Nothing)
+    → Extends started.sink new.sink
+    → FailsOrDrops may_run may_fail started new why ⊎ IsUnfinished may_run started new key why
+    → HasStoppedDynamic may_run may_fail old new c why
+stopped may_run may_fail old started new c why above key given same s x stop = (
+  above,
+  record {
+    key = key;
+    started = started;
+    start = subst (λ n. HasStarted old started (child_request c above n)
+        (event Started key n Nothing)) same s;
+    later = x;
+    stop = stop;
+  },
+)
+
+-- a finish at a stamp and with a payload that are others' was refused
+pub refused_as : (u : UnitView) (key given stamp : ℕ) (payload outcome : Payload) (why : UnitFault)
+    → given ≡ stamp → payload ≡ outcome
+    → IsInnermostCause u (event Finished key given payload) why
+    → IsInnermostCause u (event Finished key stamp outcome) why
+refused_as u key given stamp payload outcome why a b cause =
+    subst (λ n. IsInnermostCause u (event Finished key n outcome) why) a
+    (subst (λ p. IsInnermostCause u (event Finished key given p) why) b cause)
 
 -- what was noted of a finish changes nothing
 pub finish_noted : {F : Type 0} (r noted : Result (Unit {0}) F) (old before new after : UnitView)

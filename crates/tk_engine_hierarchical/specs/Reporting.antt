@@ -14,16 +14,11 @@ use Rattle.tk_engine_execute.specs.Engines.{Extends, fault_of_id}
 use Rattle.tk_engine_execute.specs.declared.engines.UnitFault.{UnitFault}
 use Rattle.tk_engine_execute.specs.declared.engines.UnitFault.TheVariants.{Memory}
 use Rattle.tk_engine_unit_events.specs.Endings.{payload_of}
-use Rattle.tk_engine_unit_events.specs.UnitSteps.{
-  BodyRuns,
-  ChildView,
-  Grew,
-  HasFinished,
-  HasStarted,
-}
+use Rattle.tk_engine_unit_events.specs.UnitSteps.{BodyFails, BodyRuns, ChildView, Grew}
+use Rattle.tk_engine_unit_events.specs.UnitSteps.{HasFinished, HasStarted}
 use Rattle.tk_engine_unit_events.specs.UnitSteps.{UnitView, child, child_request, event}
-use Rattle.tk_engine_unit_events.specs.Refusals.{ChildStart, IsChildCause, IsPublishCause}
-use Rattle.tk_engine_unit_events.specs.Refusals.{child_start}
+use Rattle.tk_engine_unit_events.specs.Refusals.{ChildStart, IsChildCause, IsInnermostCause}
+use Rattle.tk_engine_unit_events.specs.Refusals.{IsPublishCause, child_start}
 use Rattle.tk_engine_unit_events.specs.Standing.{BegunUnit}
 use Rattle.tk_engine_unit_events.specs.declared.outcomes.Outcome.{Outcome}
 use Rattle.tk_engine_hierarchical.specs.Causes.{first_cause}
@@ -58,6 +53,34 @@ pub record HasBegunChild (old new : UnitView) (ask : RegisterRequest) : Type 0 w
 -- its body emitted
 abbrev pub HasBegunDynamic : UnitView → UnitView → ChildView → Type 0
 HasBegunDynamic old new c = (above : ℕ) × HasBegunChild old new (child_request c above old.stamp)
+
+-- a body failed as it may; or it answered an outcome, and had dropped the fault of a child
+abbrev pub FailsOrDrops : BodyRuns → BodyFails → BodyFails
+FailsOrDrops may_run may_fail before after why =
+    may_fail before after why ⊎ ((outcome : Outcome) × may_run before after outcome)
+
+-- the body of the child with this key ran once, and the child's finish was refused
+pub record IsUnfinished (may_run : BodyRuns) (started new : UnitView) (key : ℕ) (why : UnitFault) :
+    Type 0 where
+  pub outcome : Outcome
+  pub ran : may_run started new outcome
+  pub refused : IsInnermostCause new (event Finished key new.stamp (payload_of outcome)) why
+
+-- a child began, and this is why it stopped: its body failed, or its finish was refused
+pub record HasStoppedChild (may_run : BodyRuns) (may_fail : BodyFails) (old new : UnitView)
+    (ask : RegisterRequest) (why : UnitFault) : Type 0 where
+  pub key : ℕ
+  pub started : UnitView
+  pub start : HasStarted old started ask (event Started key ask.stamp Nothing)
+  pub later : Extends started.sink new.sink
+  pub stop : FailsOrDrops may_run may_fail started new why
+      ⊎ IsUnfinished may_run started new key why
+
+-- a child began, and this is why it stopped
+abbrev pub HasStoppedDynamic :
+    BodyRuns → BodyFails → UnitView → UnitView → ChildView → UnitFault → Type 0
+HasStoppedDynamic may_run may_fail old new c why =
+    (above : ℕ) × HasStoppedChild may_run may_fail old new (child_request c above old.stamp) why
 
 -- what is asked for, to start a child at this stamp
 abbrev pub dynamic_start : ChildView → ℕ → ChildStart

@@ -1,5 +1,5 @@
 //! A unit that runs as its plan says.
-ghost use Rattle.std.specs.Prelude.{◌≡◌, ◌<◌, ℕ, IfNone, IfOk, IfSome, OnOk, length, unwrap_or};
+ghost use Rattle.std.specs.Prelude.{◌≡◌, ◌<◌, ℕ, IfErr, IfNone, IfOk, IfSome, OnOk, length, unwrap_or};
 ghost use Rattle.tk_engine_execute.specs.Engines.{Extends};
 ghost use Rattle.tk_events.specs.declared.kinds.Kind.TheVariants.{File, Finished, Reporting};
 ghost use Rattle.tk_events.specs.declared.kinds.Kind.TheVariants.{Skipped, Started};
@@ -7,6 +7,7 @@ ghost use Rattle.tk_events.specs.declared.payloads.Payload.TheVariants.{Nothing,
 ghost use Rattle.tk_events.specs.declared.payloads.Payload.TheVariants.{Path, Reason, Report};
 ghost use Rattle.tk_engine_unit_events.specs.Endings.{IsStaticTest, payload_of};
 ghost use Rattle.tk_engine_unit_events.specs.UnitSteps.{HasFinished, event};
+ghost use Rattle.tk_engine_hierarchical.specs.Reporting.{FailsOrDrops};
 ghost use Rattle.tk_engine_hierarchical.specs.TreeRuns.{FinishesNode, RunsBody, SkipsNode, StartsNode, after_each, after_next, after_publishing, child_of_node, plan_state, stamp_after};
 
 use crate::contexts::{Context, InUnit};
@@ -38,6 +39,8 @@ fn run_test<'a, C: Context, T: Tests>(
     ensures end { IfOk ended.new (λ outcome. T.may_end tests.now key outcome) }
     ensures run { IfOk ended.new (λ outcome.
         T.may_run tests.now key test.entry.events result outcome) }
+    ensures fail { IfErr ended.new (FailsOrDrops (T.may_run tests.now key)
+        (T.may_fail tests.now key) test.entry.events result) }
 {
     let answer = tests.run(key, &mut test);
     let (events, how) = test.end(answer);
@@ -53,9 +56,14 @@ struct TestBody<'t, T> {
 }
 
 impl<'t, T: Tests> UnitBody for TestBody<'t, T> {
+    ghost use Rattle.tk_engine_hierarchical.specs.Reporting.{FailsOrDrops};
+
     ghost may_end = { λ body. T.may_end body.tests.now body.key };
 
     ghost may_run = { λ body. T.may_run body.tests.now body.key };
+
+    ghost may_fail = { λ body. FailsOrDrops
+        (T.may_run body.tests.now body.key) (T.may_fail body.tests.now body.key) };
 
     fn run_with<'a, R: Wait, S: Sink, K: UnitRun>(
         &self,

@@ -8,8 +8,8 @@ ghost use Rattle.tk_engine_execute.specs.declared.engines.UnitFault.{UnitFault};
 ghost use Rattle.tk_engine_execute.specs.declared.engines.UnitFault.TheVariants.{Own};
 ghost use Rattle.tk_engine_unit_events.specs.Endings.{payload_of};
 ghost use Rattle.tk_engine_hierarchical.specs.Causes.{first_cause};
-ghost use Rattle.tk_engine_hierarchical.specs.Reporting.{EndsChild, HasBegunDynamic, HasFailedDynamic, HasRunDynamic, IsDynamicCause, IsSegmentCause, IsTextCause, dynamic_start, entry_at, file_at, named_child, segment_view, skip_at};
-ghost use Rattle.tk_engine_unit_events.specs.Refusals.{IsChildCause, IsPublishCause, child_start};
+ghost use Rattle.tk_engine_hierarchical.specs.Reporting.{EndsChild, FailsOrDrops, HasFailedDynamic, HasRunDynamic, HasStoppedDynamic, IsDynamicCause, IsSegmentCause, IsTextCause, dynamic_start, entry_at, file_at, named_child, segment_view, skip_at};
+ghost use Rattle.tk_engine_unit_events.specs.Refusals.{IsChildCause, IsInnermostCause, IsPublishCause, child_start};
 ghost use Rattle.tk_engine_unit_events.specs.Taken.{IsFaultOfTaken, IsTaken};
 ghost use Rattle.tk_engine_unit_events.specs.UnitSteps.{Grew, HasFinished, HasSkipped, IsInnermost, Published, child_request, event};
 
@@ -45,6 +45,8 @@ fn run_body<'a, C: Context, B: Body>(
     ensures end { IfOk ended.new (λ outcome. B.may_end body.now outcome) }
     ensures run { IfOk ended.new (λ outcome.
         B.may_run body.now test.entry.events result outcome) }
+    ensures fail { IfErr ended.new (FailsOrDrops (B.may_run body.now) (B.may_fail body.now)
+        test.entry.events result) }
 {
     let answer = body.run(&mut test);
     let (events, how) = test.end(answer);
@@ -59,9 +61,14 @@ struct ReportingBody<'b, B> {
 }
 
 impl<'b, B: Body> UnitBody for ReportingBody<'b, B> {
+    ghost use Rattle.tk_engine_hierarchical.specs.Reporting.{FailsOrDrops};
+
     ghost may_end = { λ reporting. B.may_end reporting.body.now };
 
     ghost may_run = { λ reporting. B.may_run reporting.body.now };
+
+    ghost may_fail = { λ reporting. FailsOrDrops
+        (B.may_run reporting.body.now) (B.may_fail reporting.body.now) };
 
     fn run_with<'a, R: Wait, S: Sink, K: UnitRun>(
         &self,
@@ -152,6 +159,8 @@ impl<'r, 'a, C: Context> Reporter<'r, 'a, C> {
         ensures ok { OnOk result (HasFinished self.old.events self.new.events
             (event kinds.Finished key self.old.events.stamp (payload_of outcome))) }
         ensures err { OnErr result (self.new.events ≡ self.old.events) }
+        ensures cause { IfErr result (IsInnermostCause self.old.events
+            (event kinds.Finished key self.old.events.stamp (payload_of outcome))) }
         ensures kept { self.new.child_fault ≡ self.old.child_fault }
     {
         let stamp = self.events.stamp();
@@ -174,7 +183,8 @@ impl<'r, 'a, C: Context> Reporter<'r, 'a, C> {
         ensures cause { IfErr result (λ why.
             IsChildCause C.Run.unit self.old.events
             (dynamic_start child.now self.old.events.stamp) why
-            ⊎ HasBegunDynamic self.old.events self.new.events child.now) }
+            ⊎ HasStoppedDynamic (B.may_run body.now) (B.may_fail body.now)
+            self.old.events self.new.events child.now why) }
     {
         let (rt, alloc) = (self.rt, self.alloc);
         let stamp = self.events.stamp();
@@ -212,8 +222,8 @@ impl<'r, 'a, C: Context> Reporter<'r, 'a, C> {
         ensures cause { IfErr result (λ why.
             IsDynamicCause C.Run.unit self.old.events (dynamic_start
             (named_child dtype segment.entry name.now) self.old.events.stamp) why
-            ⊎ HasBegunDynamic self.old.events self.new.events
-            (named_child dtype segment.entry name.now)) }
+            ⊎ HasStoppedDynamic (B.may_run body.now) (B.may_fail body.now)
+            self.old.events self.new.events (named_child dtype segment.entry name.now) why) }
     {
         let segment = segment_of(self.alloc, segment)?;
         let child = Child {
@@ -353,8 +363,8 @@ impl<'r, 'a, C: Context> Reporter<'r, 'a, C> {
         ensures cause { IfErr result (λ why.
             IsDynamicCause C.Run.unit self.old.events (dynamic_start
             (named_child Test segment.entry name.now) self.old.events.stamp) why
-            ⊎ HasBegunDynamic self.old.events self.new.events
-            (named_child Test segment.entry name.now)) }
+            ⊎ HasStoppedDynamic (B.may_run body.now) (B.may_fail body.now)
+            self.old.events self.new.events (named_child Test segment.entry name.now) why) }
         // Whatever the body does.
         ensures same { IsSameSender C.Run.unit.start self.new.events.sink }
         ensures some { Extends C.Run.unit.start self.new.events.sink }
@@ -394,8 +404,8 @@ impl<'r, 'a, C: Context> Reporter<'r, 'a, C> {
         ensures cause { IfErr result (λ why.
             IsDynamicCause C.Run.unit self.old.events (dynamic_start
             (named_child Container segment.entry name.now) self.old.events.stamp) why
-            ⊎ HasBegunDynamic self.old.events self.new.events
-            (named_child Container segment.entry name.now)) }
+            ⊎ HasStoppedDynamic (B.may_run body.now) (B.may_fail body.now)
+            self.old.events self.new.events (named_child Container segment.entry name.now) why) }
         // Whatever the body does.
         ensures same { IsSameSender C.Run.unit.start self.new.events.sink }
         ensures some { Extends C.Run.unit.start self.new.events.sink }

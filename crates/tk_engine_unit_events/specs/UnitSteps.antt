@@ -12,6 +12,7 @@ use Rattle.tk_events.specs.declared.payloads.Payload.{Payload}
 use Rattle.tk_queue_session.specs.Registering.{IsRegisteredAs, RegisterRequest}
 use Rattle.tk_queue_session.specs.Senders.{SenderView, sends}
 use Rattle.tk_engine_execute.specs.Engines.{Extends}
+use Rattle.tk_engine_execute.specs.declared.engines.UnitFault.{UnitFault}
 use Rattle.tk_engine_unit_events.specs.declared.outcomes.Outcome.{Outcome}
 
 -- what contracts see of a unit that runs: its sink, the keys that run, innermost first, the stamp
@@ -85,6 +86,10 @@ pub record HasStarted (old new : UnitView) (ask : RegisterRequest) (start : Even
 -- how a body may run: from which unit to which one, with which outcome
 abbrev pub BodyRuns : Type 1
 BodyRuns = UnitView → UnitView → Outcome → Type 0
+
+-- how a body may fail: from which unit to which one, with which fault
+abbrev pub BodyFails : Type 1
+BodyFails = UnitView → UnitView → UnitFault → Type 0
 
 -- what was asked for was registered below the innermost running key, then skipped with this event,
 -- and nothing else happened

@@ -134,6 +134,9 @@ impl<'a, S: Sink> Lease<'a, S> {
         ensures ran { IfOk run.new.outcome (λ outcome. B.may_run body.now
             (unit_view K.unit.frame.table (S.view self.old.sink.now) run.old.progress)
             (unit_view K.unit.frame.table (S.view self.new.sink.now) run.new.progress) outcome) }
+        ensures cause { IfErr run.new.outcome (B.may_fail body.now
+            (unit_view K.unit.frame.table (S.view self.old.sink.now) run.old.progress)
+            (unit_view K.unit.frame.table (S.view self.new.sink.now) run.new.progress)) }
     {
         run_into::<R, S, K, B>(rt, alloc, body, shape, self.sink, run);
     }
@@ -156,6 +159,9 @@ fn run_into<R: Wait, S: Sink, K: UnitRun, B: UnitBody>(
     ensures ran { IfOk run.new.outcome (λ outcome. B.may_run body.now
         (unit_view K.unit.frame.table (S.view sink.old) run.old.progress)
         (unit_view K.unit.frame.table (S.view sink.new) run.new.progress) outcome) }
+    ensures cause { IfErr run.new.outcome (B.may_fail body.now
+        (unit_view K.unit.frame.table (S.view sink.old) run.old.progress)
+        (unit_view K.unit.frame.table (S.view sink.new) run.new.progress)) }
 {
     let lease = Lease { sink };
     let _lease = run_lent::<R, S, Brand, B>(rt, alloc, body, shape, lease, run);
@@ -181,6 +187,9 @@ fn run_lent<'a, R: Wait, S: Sink, K: UnitRun, B: UnitBody>(
     ensures ran { IfOk run.new.outcome (λ outcome. B.may_run body.now
         (unit_view K.unit.frame.table K.since run.old.progress)
         (unit_view K.unit.frame.table (S.view result.sink.now) run.new.progress) outcome) }
+    ensures cause { IfErr run.new.outcome (B.may_fail body.now
+        (unit_view K.unit.frame.table K.since run.old.progress)
+        (unit_view K.unit.frame.table (S.view result.sink.now) run.new.progress)) }
 {
     let begun = mem::replace(&mut run.progress, UnitProgress::nothing(alloc));
     let events: UnitEvents<'a, S, K> = UnitEvents::resume(lease, shape, begun);

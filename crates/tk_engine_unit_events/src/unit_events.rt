@@ -209,6 +209,7 @@ impl<'a, S: Sink, K: UnitRun> UnitEvents<'a, S, K> {
     ) -> Result<Outcome, UnitFault>
         ensures may { IfOk result (λ outcome. B.may_end body.now outcome) }
         ensures ran { IfOk result (λ outcome. B.may_run body.now self.old self.new outcome) }
+        ensures cause { IfErr result (B.may_fail body.now self.old self.new) }
         ensures more { Extends self.old.sink self.new.sink }
         ensures outer { KeepsOuter self.old self.new }
     {

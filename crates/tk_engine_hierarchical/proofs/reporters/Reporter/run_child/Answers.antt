@@ -1,15 +1,16 @@
 use Rattle.std.proofs.Common.{◌≡◌, ◌∙◌, ap, inl, inr, refl, subst, sym}
 use Rattle.std.proofs.lemmas.Result.{err_from_is_err_and}
-use Rattle.std.specs.Prelude.{IfOk, OnErr}
+use Rattle.std.specs.Prelude.{IfErr, IfOk, OnErr}
 use Rattle.tk_engine_execute.specs.Engines.{Extends}
+use Rattle.tk_events.specs.declared.kinds.Kind.TheVariants.{Finished}
 use Rattle.tk_engine_unit_events.specs.Endings.{payload_of}
-use Rattle.tk_engine_unit_events.specs.Refusals.{IsChildCause}
-use Rattle.tk_engine_unit_events.specs.UnitSteps.{UnitView, child_request}
+use Rattle.tk_engine_unit_events.specs.Refusals.{IsChildCause, IsInnermostCause}
+use Rattle.tk_engine_unit_events.specs.UnitSteps.{UnitView, child_request, event}
 use Rattle.tk_engine_unit_events.proofs.UnitSteps.{both_err, if_err, on_ok}
 use Rattle.tk_engine_hierarchical.specs.Causes.{first_cause}
-use Rattle.tk_engine_hierarchical.specs.Reporting.{dynamic_start}
-use Rattle.tk_engine_hierarchical.proofs.Reported.{begun, ends_child, failed_begun}
-use Rattle.tk_engine_hierarchical.proofs.Reported.{finish_noted, has_run_child}
+use Rattle.tk_engine_hierarchical.specs.Reporting.{FailsOrDrops, dynamic_start}
+use Rattle.tk_engine_hierarchical.proofs.Reported.{ends_child, failed_begun, finish_noted}
+use Rattle.tk_engine_hierarchical.proofs.Reported.{has_run_child, stopped, unfinished}
 use Rattle.tk_engine_hierarchical.proofs.reporters.Reporter.run_child.Goals as goal
 
 pub returns-clause-ok : goal.returns-clause-ok
@@ -85,20 +86,38 @@ returns-in_err-outcome-clause-cause g c =
     c.from_residual-in_err-outcome.ensures.1 in
     let later = subst (λ (v : UnitView). Extends c.start_child.new.self.sink v.sink)
     (sym c.note.ensures.events) c.run_body-ended.ensures.more in
-    rw (p.1, p.2) (inr (begun _ _ _ c.args.child.now s.0 c.in_ok-key.key _ c.stamp-stamp.ensures s.1
-    later))
+    let fails = subst (λ r. IfErr r (FailsOrDrops (g.B.Body.may_run c.args.body.now)
+    (g.B.Body.may_fail c.args.body.now) c.start_child.new.self c.run_body-ended.new.self))
+    (sym c.in_err-outcome.ensures.same) c.run_body-ended.ensures.cause in
+    let here = subst (λ (v : UnitView). FailsOrDrops (g.B.Body.may_run c.args.body.now)
+    (g.B.Body.may_fail c.args.body.now) c.start_child.new.self v c.in_err-outcome.field-0.0)
+    (sym c.note.ensures.events) fails in
+    rw (p.1, p.2) (inr (stopped _ _ _ _ _ c.args.child.now _ s.0 c.in_ok-key.key _
+    c.stamp-stamp.ensures s.1 later (inl here)))
 
 pub returns-clause-cause : goal.returns-clause-cause
 returns-clause-cause g c =
     let s = c.in_ok-key.ensures.started in
     let refused = subst (λ r. OnErr r (c.finish-finished.new.self.events ≡ c.note.new.self.events))
     (sym c.note-2.ensures.same) c.finish-finished.ensures.err in
-    both_err _ _ c.note-2.result refused c.note-2.ensures.err
+    let its = subst (λ r. IfErr r (IsInnermostCause c.note.new.self.events
+    (event Finished c.in_ok-key.key c.note.new.self.events.stamp
+    (payload_of c.in_ok-outcome.outcome)))) (sym c.note-2.ensures.same)
+    c.finish-finished.ensures.cause in
+    let ran = subst (λ r. IfOk r
+    (λ outcome. g.B.Body.may_run c.args.body.now c.start_child.new.self
+    c.run_body-ended.new.self outcome))
+    (sym c.in_ok-outcome.ensures.same) c.run_body-ended.ensures.ran in
+    both_err _ _ c.note-2.result refused its
     (λ why same cause.
     let later = subst (λ (v : UnitView). Extends c.start_child.new.self.sink v.sink)
     (sym (c.note-2.ensures.events ∙ same ∙ c.note.ensures.events)) c.run_body-ended.ensures.more
     in
-    inr (begun _ _ _ c.args.child.now s.0 c.in_ok-key.key _ c.stamp-stamp.ensures s.1 later))
+    let last = unfinished (g.B.Body.may_run c.args.body.now) c.start_child.new.self
+    c.run_body-ended.new.self c.note.new.self.events c.note-2.new.self.events c.in_ok-key.key
+    c.in_ok-outcome.outcome why c.note.ensures.events (c.note-2.ensures.events ∙ same) ran cause in
+    inr (stopped _ _ _ _ _ c.args.child.now why s.0 c.in_ok-key.key _ c.stamp-stamp.ensures s.1
+    later (inr last)))
 
 pub returns-clause-running : goal.returns-clause-running
 returns-clause-running g c =

@@ -1,7 +1,7 @@
 use Rattle.std.proofs.Common.{◌⊎◌, ⊎_elim, inl, inr, subst}
 use Rattle.std.specs.Prelude.{IfErr, OnOk}
-use Rattle.tk_engine_hierarchical.specs.Reporting.{HasBegunDynamic, HasRunDynamic, IsDynamicCause}
-use Rattle.tk_engine_hierarchical.specs.Reporting.{dynamic_start}
+use Rattle.tk_engine_hierarchical.specs.Reporting.{HasRunDynamic, HasStoppedDynamic}
+use Rattle.tk_engine_hierarchical.specs.Reporting.{IsDynamicCause, dynamic_start}
 use Rattle.tk_engine_unit_events.specs.UnitSteps.{child}
 use Rattle.tk_engine_unit_events.proofs.UnitSteps.{if_err_then}
 use Rattle.tk_engine_hierarchical.proofs.reporters.Reporter.run_dynamic.Goals as goal
@@ -17,7 +17,8 @@ returns-clause-cause g c =
     subst (λ s. IfErr c.run_child.result (λ why. IsDynamicCause g.C.Run.UnitRun.unit
     c.args.self.now.events
     (dynamic_start (child c.args.dtype s c.args.name.now) c.args.self.now.events.stamp) why
-    ⊎ HasBegunDynamic c.args.self.now.events c.run_child.new.self.events
-    (child c.args.dtype s c.args.name.now))) c.in_ok-segment.ensures.ok
+    ⊎ HasStoppedDynamic (g.B.Body.may_run c.args.body.now) (g.B.Body.may_fail c.args.body.now)
+    c.args.self.now.events c.run_child.new.self.events
+    (child c.args.dtype s c.args.name.now) why)) c.in_ok-segment.ensures.ok
     (if_err_then _ _ c.run_child.result c.run_child.ensures.cause
     (λ why cause. ⊎_elim (λ a. inl (inr a)) (λ b. inr b) cause))
