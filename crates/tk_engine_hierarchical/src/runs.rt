@@ -1,7 +1,8 @@
 //! The run of an engine of tests, and what holds of its record.
-ghost use Rattle.std.specs.Prelude.{◌≡◌, ◌↔◌, ℕ, ◌<◌, ◌≤◌, ◌⊎◌, Err, IfOk};
+ghost use Rattle.std.specs.Prelude.{◌≡◌, ◌↔◌, ℕ, ◌<◌, ◌≤◌, ◌⊎◌, Err, IfErr, IfOk};
 ghost use Rattle.tk_queue_session.specs.Limits.{capacity_of};
 ghost use Rattle.tk_query_lifecycle.specs.KeepsLifecycle.{KeepsLifecycle};
+ghost use Rattle.tk_engine_execute.specs.Faults.{IsFaultOfRun};
 ghost use Rattle.tk_engine_execute.specs.Results.{IsTallied};
 ghost use Rattle.tk_engine_execute.specs.declared.engines.UnitFault.{UnitFault};
 ghost use Rattle.tk_plan_laws.specs.Laws.{IsKept};
@@ -61,7 +62,7 @@ fn shows_laws<T: Tests + Sync>(engine: &Hierarchical<T>, results: &Results)
 /// - `trees`: each unit ran its tree, and of each static test the body once, as `may_run` says.
 ///
 /// # Errors
-/// Those of [`execute`].
+/// Those of [`execute`]. To keep the record of a run that failed, call `execute_keeping_record`.
 pub fn run_tests<R: Threads + Wait + Sync, T: Tests + Sync>(
     rt: &R,
     alloc: Global,
@@ -89,6 +90,8 @@ pub fn run_tests<R: Threads + Wait + Sync, T: Tests + Sync>(
         × ((capacity ≡ 0) ⊎ (MAX_CAPACITY < capacity))) }
     ensures unit { (unit : ℕ) (why : UnitFault) → result ≡ Err (RunFault.Engine unit why)
         → unit < count_units engine.now.shape }
+    ensures fault { IfErr result
+        (IsFaultOfRun workers (λ unit why. unit < count_units engine.now.shape)) }
 {
     let results = execute(rt, alloc, engine, workers, capacity)?;
     shows_laws(engine, &results);
