@@ -519,6 +519,7 @@ BESIDE = [
     *[Pair("ask locks", "ask executions", input, 1.5, f"locks, {name}, beside executions") for name, input in LOCKED],
     *[Pair("ask explain locks", "ask locks", input, 3, f"explained locks, {name}") for name, input in LOCKED if input in UNCOMPARED],
     Pair("ask explain loosely" + LAST_FAILS, "ask match loosely" + LAST_FAILS, EVENTS, 3),
+    Pair(f"ask explain loosely {MANY_MEMBERS}", f"ask match loosely {MANY_MEMBERS}", EVENTS, 3, "explained 2,000 members beside their match"),
     Pair("ask explain in-order" + LAST_FAILS, "ask match in-order" + LAST_FAILS, EVENTS, 3),
     Pair("ask explain in-order" + TOO_EARLY, "ask match in-order" + TOO_EARLY, FAILING, 3),
     Pair("ask explain exactly" + LAST_DIFFERS, "ask match exactly" + LAST_DIFFERS, fifty_skips, 3),

@@ -4,6 +4,7 @@ pub mod PartLemmas
 pub mod HoldingLemmas
 pub mod WritingLemmas
 pub mod TakenLemmas
+pub mod RuledOutLemmas
 pub mod ViewLemmas
 pub mod RankLemmas
 pub mod CandidateLemmas

@@ -26,7 +26,7 @@ lack_is : (b : Bool) → 0 + cond (not b) 1 0 ≡ (if b then 0 else 1)
 lack_is true = refl
 lack_is false = refl
 
-abbrev keys : List (List ℕ × List ℕ) → List Part
+abbrev pub keys : List (List ℕ × List ℕ) → List Part
 keys pairs = map (λ (pair : List ℕ × List ℕ). HasKey pair.0) pairs
 
 keys_counted : (r : Recorded) (pairs : List (List ℕ × List ℕ)) (e : Entry)

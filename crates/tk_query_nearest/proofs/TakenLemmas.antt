@@ -26,7 +26,7 @@ pub any_is : (c : Condition) (vec : Vec Condition Global) (list : List Condition
 any_is c vec list is items =
     ap (λ l. Any (conds_from Nothing l)) items ∙ sym (cond_of-Any vec) ∙ sym (ap cond_of is)
 
-taken_more : (list : List Condition) (at : ℕ) (m : Condition) → at < length list → m ≡ get_or list at m → conds_from Nothing (take (at + 1) list) ≡ More (conds_from Nothing (take at list)) (cond_of m)
+pub taken_more : (list : List Condition) (at : ℕ) (m : Condition) → at < length list → m ≡ get_or list at m → conds_from Nothing (take (at + 1) list) ≡ More (conds_from Nothing (take at list)) (cond_of m)
 taken_more list at m lt is =
     ap (conds_from Nothing) (take_more list at m lt ∙ ap (λ (x : Condition). take at list ++ x ∷ []) (sym is)) ∙ conds_more Nothing (take at list) m
 

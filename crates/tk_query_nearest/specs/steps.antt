@@ -1,3 +1,4 @@
 pub mod Candidates
 pub mod Counting
+pub mod RuledOut
 pub mod Writing

@@ -5,6 +5,7 @@ mod candidates;
 mod lacking;
 pub mod laws;
 mod parts;
+mod ruled_out;
 mod search;
 
 pub use candidates::{MAX_NEAREST, Nearest};

@@ -8,7 +8,9 @@ ghost use Rattle.tk_query_conditions.specs.CondOf.{cond_of};
 ghost use Rattle.tk_query_conditions.specs.steps.CondOf.{conds_from};
 ghost use Rattle.tk_query.specs.Holds.{has_within, has_descriptor, message_contains};
 ghost use Rattle.tk_query_nearest.specs.Parts.{distance, has_key, member_parts, missing, missing_parts, path_contains, reason_contains};
+ghost use Rattle.tk_query_nearest.specs.steps.RuledOut.{ruled_out_of};
 
+use crate::ruled_out::RuledOut;
 use tk_events::{Kind, Payload, Status};
 use tk_ids::Text;
 use tk_query::holds;
@@ -91,7 +93,7 @@ fn finished_so(event: &EntryView, status: Status) -> bool
 }
 
 /// How much is missing where this is whether a part holds.
-fn lack(holds: bool) -> usize
+pub(crate) fn lack(holds: bool) -> usize
     ensures value { result ≡ (if holds then 0 else 1) }
     ensures bound { result ≤ 1 }
 {
@@ -213,17 +215,20 @@ pub fn distance(record: &Record, condition: &Condition, event: &EntryView) -> us
 }
 
 /// How many parts of a condition don't hold of the entry at a position, counted up to `most`; 0
-/// past the last one.
+/// past the last one. None is counted where the event's kind and status alone rule out as many.
 pub(crate) fn distance_at(
     record: &Record,
     condition: &Condition,
+    ruled_out: &RuledOut,
     position: usize,
     most: usize,
 ) -> usize
+    requires { ruled_out.now ≡ ruled_out_of (cond_of condition.now) }
     ensures { MatchOption (slice_get «record».now.entries position) (result ≡ 0) (λ e.
         result ≡ min (distance «record».now (cond_of condition.now) e) most) }
 {
     match record.entry(position) {
+        Some(event) if ruled_out.by(&event) >= most => most,
         Some(event) => distance_up_to(record, condition, &event, most),
         None => 0,
     }

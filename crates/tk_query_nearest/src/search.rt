@@ -4,6 +4,7 @@ ghost use Rattle.tk_query_nearest.specs.Nearness.{IsNearest};
 
 use crate::candidates::{Candidate, Candidates, Nearest};
 use crate::parts::distance_at;
+use crate::ruled_out::RuledOut;
 use tk_query_conditions::Condition;
 use tk_record::Events;
 
@@ -16,10 +17,12 @@ pub fn nearest(events: &Events, first: usize, condition: &Condition) -> Nearest
     ensures { IsNearest events.now first (cond_of condition.now) result }
 {
     let record = events.record();
+    let ruled_out = RuledOut::of(condition);
     let mut candidates = Candidates::Empty;
     let mut low = first;
     'events: while let Some(position) = events.flags().first_from(low) {
-        let distance = distance_at(record, condition, position, candidates.counted_to());
+        let most = candidates.counted_to();
+        let distance = distance_at(record, condition, &ruled_out, position, most);
         if candidates.admits(distance) {
             candidates = candidates.with(Candidate { distance, position });
         }

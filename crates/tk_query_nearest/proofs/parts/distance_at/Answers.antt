@@ -1,11 +1,27 @@
 use Rattle.std.proofs.Common.{refl, arith}
 use Rattle.std.proofs.lemmas.Bool.{false≢true}
+use Rattle.tk_record.specs.Record.{entry_of_view}
 use Rattle.tk_query_conditions.specs.CondOf.{cond_of}
+use Rattle.tk_query_nearest.proofs.RuledOutLemmas.{ruled_out_lacks}
 use Rattle.tk_query_nearest.proofs.ViewLemmas.{none_there, uncapped, view_there}
 use Rattle.tk_query_nearest.proofs.parts.distance_at.Goals as goal
 
 pub returns-in-Some : goal.returns-in-Some
 returns-in-Some c =
+    let r = c.args.«record».now in
+    let condition = cond_of c.args.condition.now in
+    let event = c.in-Some.event in
+    view_there r condition r.entries c.args.position c.args.most c.args.most event
+    (c.in-Some.ensures.there.0 refl) c.in-Some.ensures.value
+    (uncapped _ _ c.args.most (let fits = c.ranges.most.fits in omega arith)
+    (omega (
+      arith,
+      ruled_out_lacks r (entry_of_view event) condition,
+      c.by.ensures condition c.requires,
+    )))
+
+pub returns-in-Some-2 : goal.returns-in-Some-2
+returns-in-Some-2 c =
     let r = c.args.«record».now in
     view_there r (cond_of c.args.condition.now) r.entries c.args.position c.distance_up_to.result
     c.args.most c.in-Some.event (c.in-Some.ensures.there.0 refl) c.in-Some.ensures.value

@@ -22,8 +22,8 @@ events-preserved c =
     let counted : n ≡ min (distance_at asked condition at) (counted_to list) =
     counted_here asked c.flags.result.now are c.flags.ensures.size c.args.first condition
     c.events.low list c.events.invariant at c.in-Some.ensures.value c.record-record.result.now
-    c.record-record.ensures n c.counted_to.result c.distance_at-distance.ensures
-    ∙ ap (min (distance_at asked condition at)) c.counted_to.ensures in
+    c.record-record.ensures n c.counted_to-most.result c.distance_at-distance.ensures
+    ∙ ap (min (distance_at asked condition at)) c.counted_to-most.ensures in
     elim c.if-admits.branch [
       | then-admits w ↦
           subst (λ (kept : Candidates).
