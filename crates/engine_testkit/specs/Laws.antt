@@ -9,6 +9,7 @@ pub use Rattle.tk_engine_lifecycle.specs.UnderWay.{IsUnderWay, UnitState}
 pub use Rattle.tk_engine_unit_events.specs.Endings.{EndsAsItMay, HasOutcome, IsStaticTest}
 pub use Rattle.tk_engine_unit_events.specs.Nesting.{BelongsTo, EventsNest}
 pub use Rattle.tk_engine_hierarchical.specs.Laws.{HasTurn, HaveTurns, HasOutcomes, FollowsPlan}
-pub use Rattle.tk_engine_hierarchical.specs.Laws.{IsRunOf, TestRules, test_rules}
+pub use Rattle.tk_engine_hierarchical.specs.Laws.{IsRunOf}
 pub use Rattle.tk_engine_hierarchical.specs.Laws.{UnitsNest, UnitsRanTrees}
 pub use Rattle.tk_engine_hierarchical.specs.Runs.{IsRunBy}
+pub use Rattle.tk_engine_hierarchical.specs.TreeRuns.{TestRules, test_rules}

@@ -8,7 +8,9 @@ pub use tk_engine_execute::{
     Engine, FailedRun, OUT_OF_ORDER, Results, RunFault, Sink, SinkFault, TWICE, UnitFault, execute,
     execute_keeping_record, execute_many,
 };
-pub use tk_engine_hierarchical::{Body, Context, Hierarchical, Reporter, Tests, run_tests};
+pub use tk_engine_hierarchical::{
+    Body, Context, EventClock, Hierarchical, Reporter, Tests, run_tests,
+};
 pub use tk_engine_unit_events::Outcome;
 pub use tk_locks::{BookSeat, Need};
 pub use tk_overlaps::Meeting;

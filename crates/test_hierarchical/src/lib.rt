@@ -19,3 +19,5 @@ mod planned;
 mod refusals;
 #[cfg(test)]
 mod runs;
+#[cfg(test)]
+mod timed;

@@ -1,5 +1,6 @@
 -- How a unit runs its tree, step by step.
-use Rattle.std.proofs.Common.{◌≡◌, ◌+◌, ◌<◌, ◌≤◌, ℕ, List, [], ◌∷◌, take, drop, get_or}
+use Rattle.std.proofs.Common.{◌≡◌, ◌+◌, ◌<◌, ◌≤◌, ℕ, List, [], ◌∷◌, take, drop}
+use Rattle.std.proofs.Common.{get_or}
 use Rattle.std.proofs.Common.{length, Option, None, Some, slice_get, refl, sym, ap₂, ◌∙◌, subst}
 use Rattle.std.proofs.Common.{arith}
 use Rattle.std.specs.Prelude.{IfNone, OnOk, Result, Ok, Err}
@@ -20,15 +21,15 @@ use Rattle.tk_engine_execute.specs.Engines.{ExtendsAs}
 use Rattle.tk_engine_lifecycle.specs.Units.{KeepsAround, UnitsKeepLifecycle}
 use Rattle.tk_engine_unit_events.specs.Endings.{IsStaticTest}
 use Rattle.tk_engine_unit_events.specs.Events.{HasRun}
-use Rattle.tk_engine_hierarchical.specs.Laws.{RanTree, TestRules, may_of}
+use Rattle.tk_engine_hierarchical.specs.Laws.{RanTree, may_of}
 use Rattle.tk_engine_unit_events.specs.UnitSteps.{UnitView, event, begun}
 use Rattle.tk_engine_unit_events.specs.Shapes.{ShapeView, frame, keys_in, may_emit}
 use Rattle.tk_engine_hierarchical.specs.StaticSteps.{FitsPlan}
 use Rattle.tk_engine_hierarchical.specs.steps.StaticSteps.{MayStepAs}
 use Rattle.tk_engine_unit_events.specs.Units.{RunsUnit}
-use Rattle.tk_engine_hierarchical.specs.TreeRuns.{FinishesNode, PlanState, RunsBody, RunsForest}
-use Rattle.tk_engine_hierarchical.specs.TreeRuns.{RunsNode, RunsTree, RunsUnitTree, StartsNode}
-use Rattle.tk_engine_hierarchical.specs.TreeRuns.{TestRuns, after_publishing}
+use Rattle.tk_engine_hierarchical.specs.TreeRuns.{FinishesNode, PlanState, Publishes}
+use Rattle.tk_engine_hierarchical.specs.TreeRuns.{RunsBody, RunsForest, RunsNode, RunsTree}
+use Rattle.tk_engine_hierarchical.specs.TreeRuns.{RunsUnitTree, StartsNode, TestRules, TestRuns}
 use Rattle.tk_engine_hierarchical.specs.TreeRuns.{plan_state}
 use Rattle.tk_engine_hierarchical.specs.declared.planned_units.TestEnd.{TestEnd}
 use Rattle.tk_engine_unit_events.specs.declared.outcomes.Outcome.{Outcome}
@@ -66,13 +67,14 @@ may_finish table may_end may_step p key end may runs own other =
 pub ran_node : {F : Type 0} (r : Result (Unit {0}) F) (table : List Descriptor) (may_run : TestRuns)
     (n : Node) (number key : ℕ) (below : PlanState → PlanState → Type 0)
     (old started : PlanState) (ran : UnitView) (end : Option TestEnd)
-    (published left new : PlanState) → StartsNode n.is_static n number key old started
+    (stood published left new : PlanState) → StartsNode n.is_static n number key old started
     → RunsBody table may_run key started.unit ran end
-    → published ≡ after_publishing n key (plan_state ran started.next) → below published left
+    → stood ≡ record started { unit = ran } → Publishes n key stood published
+    → below published left
     → OnOk r (FinishesNode n key end left new)
     → OnOk r (RunsNode table may_run n number below old new)
-ran_node r table may_run n number key below old started ran end published left new start body is
-    children finish =
+ran_node r table may_run n number key below old started ran end stood published left new start body
+    is publish children finish =
     on_ok r finish
     (λ f. record {
       key = key;
@@ -81,8 +83,10 @@ ran_node r table may_run n number key below old started ran end published left n
       ran = ran;
       end = end;
       body = body;
+      published = published;
+      publish = subst (λ s. Publishes n key s published) is publish;
       left = left;
-      children = subst (λ s. below s left) is children;
+      children = children;
       finish = f;
     })
 
@@ -128,25 +132,27 @@ also_ok P (Err why) second h f = subst (λ r. OnOk r P) (sym (f why refl)) tt
 
 -- a unit that was begun ran its tree
 pub tree_ran : {F : Type 0} (played ended : Result (Unit {0}) F) (plan : Outline)
-    (table : List Descriptor) (may_run : TestRuns) (unit : ℕ) (piece : Piece)
+    (table : List Descriptor) (rules : TestRules) (unit : ℕ) (piece : Piece)
     (start now : SenderView)
     (old : UnitView) (left : PlanState) → plan.table ≡ table
     → slice_get (pieces_of (forest plan.nodes)) unit ≡ Some piece → old ≡ begun start
     → now ≡ left.unit.sink
-    → OnOk played (RunsTree table may_run piece.tree (plan_state old piece.first) left)
+    → OnOk played (RunsTree table rules.may_run piece.tree
+    (plan_state old piece.first rules.is_timed) left)
     → ((why : F) → played ≡ Err why → ended ≡ Err why)
-    → OnOk ended (RunsUnitTree plan may_run unit start now)
-tree_ran played ended plan table may_run unit piece start now old left same its first last ran
+    → OnOk ended (RunsUnitTree plan rules unit start now)
+tree_ran played ended plan table rules unit piece start now old left same its first last ran
     fault =
-    also_ok (RunsUnitTree plan may_run unit start now) played ended
+    also_ok (RunsUnitTree plan rules unit start now) played ended
     (on_ok played ran
     (λ r. record {
       piece = piece;
       its = its;
       left = left;
-      ran = subst (λ t. RunsTree t may_run piece.tree (plan_state (begun start) piece.first) left)
-          (sym same)
-          (subst (λ u. RunsTree table may_run piece.tree (plan_state u piece.first) left) first r);
+      ran = subst (λ t. RunsTree t rules.may_run piece.tree
+          (plan_state (begun start) piece.first rules.is_timed) left) (sym same)
+          (subst (λ u. RunsTree table rules.may_run piece.tree
+          (plan_state u piece.first rules.is_timed) left) first r);
       sink = sym last;
     }))
     fault
@@ -155,7 +161,7 @@ tree_ran played ended plan table may_run unit piece start now old left same its 
 pub ran_unit : {F : Type 0} (r : Result (Unit {0}) F) (p : Outline) (s : ShapeView)
     (rules : TestRules) (unit : ℕ) (old new : SenderView) → p ≡ s.plan → old.table ≡ s.plan.table
     → OnOk r (HasRun (frame s) (FitsPlan p rules.may_end) (keys_in s unit) old new)
-    → OnOk r (RunsUnitTree p rules.may_run unit old new)
+    → OnOk r (RunsUnitTree p rules unit old new)
     → OnOk r (ExtendsAs (may_of s rules unit) old new)
 ran_unit (Ok _) p s rules unit old new same over h t = (
   h.0,
@@ -166,7 +172,7 @@ ran_unit (Ok _) p s rules unit old new same over h t = (
     record {
       start = old;
       now = new;
-      ran = subst (λ (o : Outline). RunsUnitTree o rules.may_run unit old new) same t;
+      ran = subst (λ (o : Outline). RunsUnitTree o rules unit old new) same t;
       table = over;
       by = refl;
       earlier = refl;
@@ -197,7 +203,7 @@ module _ (s : ShapeView) (rules : TestRules) where
   pub ran_trees : (workers : ℕ) (r : Recorded)
       → IsRun (may_of s rules) (frame s).table (frame s).before (frame s).after
       (frame s).units workers r
-      → (unit : ℕ) → unit < (frame s).units → RanTree s.plan rules.may_run unit r
+      → (unit : ℕ) → unit < (frame s).units → RanTree s.plan rules unit r
   ran_trees workers r run unit low =
       let ran = unit_ran (may_of s rules) (frame s).units workers run.mid run.shared unit low in
       record {

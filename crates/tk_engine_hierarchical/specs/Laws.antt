@@ -16,23 +16,15 @@ use Rattle.tk_engine_unit_events.specs.Nesting.{EventsNest}
 use Rattle.tk_engine_unit_events.specs.Shapes.{ShapeView, frame, may_emit}
 use Rattle.tk_engine_hierarchical.specs.StaticSteps.{FitsPlan}
 use Rattle.tk_engine_unit_events.specs.Units.{StepsAs}
-use Rattle.tk_engine_hierarchical.specs.TreeRuns.{IsOfUnitTree, TestRuns, UnitWorker}
+use Rattle.tk_engine_hierarchical.specs.TreeRuns.{IsOfUnitTree, TestRules, UnitWorker}
 use Rattle.tk_engine_unit_events.specs.declared.outcomes.Outcome.{Outcome}
 
--- what tests promise, by their keys: with which outcomes each may end, and how its body may run
-pub record TestRules : Type 1 where
-  pub may_end : ℕ → Outcome → Type 0
-  pub may_run : TestRuns
-
-abbrev pub test_rules : (ℕ → Outcome → Type 0) → TestRuns → TestRules
-test_rules may_end may_run = record { may_end = may_end; may_run = may_run }
-
 -- Which events a unit of the engine of a plan may emit for a worker, by the engine's shape, which
--- has the plan, and by what the tests promise.
+-- has the plan, and by what its tests promise.
 abbrev pub may_of : ShapeView → TestRules → ℕ → ℕ → ℕ → List Event → Type 0
 may_of shape rules unit worker earlier events =
     may_emit shape (FitsPlan shape.plan rules.may_end) unit worker earlier events
-    × IsOfUnitTree shape.plan rules.may_run unit
+    × IsOfUnitTree shape.plan rules unit
     (record { worker = worker; earlier = earlier }) events
 
 -- The record is that of a run of the engine of a plan by some workers, in which each unit emits
@@ -69,7 +61,7 @@ abbrev pub UnitsNest : Recorded → Type 0
 UnitsNest r = (worker : ℕ) → 0 < worker → EventsNest r (of_worker worker r.entries)
 
 -- a worker emitted in a row what a run of the unit's tree emits
-pub record RanTree (plan : Outline) (may_run : TestRuns) (unit : ℕ) (r : Recorded) : Type 0 where
+pub record RanTree (plan : Outline) (rules : TestRules) (unit : ℕ) (r : Recorded) : Type 0 where
   pub by : UnitWorker
   pub is_worker : 0 < by.worker
   pub before : List Event
@@ -77,9 +69,9 @@ pub record RanTree (plan : Outline) (may_run : TestRuns) (unit : ℕ) (r : Recor
   pub after : List Event
   pub emitted : of_worker by.worker r.entries ≡ before ++ events ++ after
   pub registered : registrations before ≡ by.earlier
-  pub of_tree : IsOfUnitTree plan may_run unit by events
+  pub of_tree : IsOfUnitTree plan rules unit by events
 
 -- of each unit a worker emitted in a row what a run of the unit's tree emits
-abbrev pub UnitsRanTrees : Outline → TestRuns → Recorded → Type 0
-UnitsRanTrees plan may_run r =
-    (unit : ℕ) → unit < length (units_of (forest plan.nodes)) → RanTree plan may_run unit r
+abbrev pub UnitsRanTrees : Outline → TestRules → Recorded → Type 0
+UnitsRanTrees plan rules r =
+    (unit : ℕ) → unit < length (units_of (forest plan.nodes)) → RanTree plan rules unit r

@@ -2,7 +2,8 @@
 use Rattle.std.specs.Prelude.{ℕ}
 use Rattle.tk_record.specs.Recorded.{Recorded}
 use Rattle.tk_engine_runs.specs.Run.{IsRun}
-use Rattle.tk_engine_hierarchical.specs.Laws.{TestRules, may_of}
+use Rattle.tk_engine_hierarchical.specs.Laws.{may_of}
+use Rattle.tk_engine_hierarchical.specs.TreeRuns.{TestRules}
 use Rattle.tk_engine_unit_events.specs.Shapes.{ShapeView, frame}
 
 -- The record is that of a run of the engine of a plan by this many workers, in which each unit

@@ -1,10 +1,12 @@
 //! Where a test runs.
+use crate::clocks::EventClock;
 use std::marker::PhantomData;
 use std::sync::Wait;
 use tk_engine_execute::Sink;
 use tk_engine_unit_events::UnitRun;
 
-/// Where a test runs: by which runtime, into which sink, and in which run of its unit.
+/// Where a test runs: by which runtime, into which sink, in which run of its unit, and by which
+/// clock.
 ///
 /// The library picks it at each call of [`Tests::run`](crate::Tests::run) and
 /// [`Body::run`](crate::Body::run). A function that is passed a `Reporter` has it as its bound.
@@ -14,17 +16,21 @@ pub trait Context {
     type Sink: Sink;
 
     type Run: UnitRun;
+
+    type Clock: EventClock;
 }
 
 /// Where the tests of a unit run.
-pub(crate) struct InUnit<R, S, K> {
-    of: PhantomData<(R, S, K)>,
+pub(crate) struct InUnit<R, S, K, C> {
+    of: PhantomData<(R, S, K, C)>,
 }
 
-impl<R: Wait, S: Sink, K: UnitRun> Context for InUnit<R, S, K> {
+impl<R: Wait, S: Sink, K: UnitRun, C: EventClock> Context for InUnit<R, S, K, C> {
     type Runtime = R;
 
     type Sink = S;
 
     type Run = K;
+
+    type Clock = C;
 }

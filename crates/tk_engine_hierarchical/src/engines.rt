@@ -1,9 +1,10 @@
 //! The engine of a plan whose tests have bodies, as `execute` takes it.
-ghost use Rattle.std.specs.Prelude.{◌≡◌, IfOk};
+ghost use Rattle.std.specs.Prelude.{◌≡◌, IfOk, None, Some};
 ghost use Rattle.tk_plan.specs.Planned.{IsPlanned};
 ghost use Rattle.tk_engine_lifecycle.specs.Units.{KeepsAround};
 ghost use Rattle.tk_engine_unit_events.specs.Shapes.{frame, HavePlaces};
 
+use crate::clocks::{EventClock, NoClock};
 use crate::hierarchical::run_unit;
 use crate::tests::Tests;
 use std::alloc::{AllocError, Global};
@@ -18,26 +19,56 @@ use tk_plan::Plan;
 
 /// The engine of a plan whose tests have bodies: it starts, runs and finishes them.
 ///
-/// JUnit: `HierarchicalTestEngine`.
+/// A timed engine has a clock, which gives each event its stamp. JUnit: `HierarchicalTestEngine`.
 #[derive(Drop)]
-pub struct Hierarchical<T> {
+pub struct Hierarchical<T, C = NoClock> {
     shape: Shape,
     tests: T,
+    clock: Option<C>,
 }
 
 impl<T: Tests + Drop> Hierarchical<T> {
     /// Makes the engine of a plan and of its tests. Its table, its units, and its events before and
-    /// after them are the plan's.
+    /// after them are the plan's. The stamp of an event is its position in the root's script.
     pub fn new(alloc: Global, plan: Plan, tests: T) -> Result<Hierarchical<T>, AllocError>
         ensures plan { IfOk result (λ engine. engine.shape.plan ≡ plan) }
         ensures tests { IfOk result (λ engine. engine.tests ≡ tests) }
+        ensures untimed { IfOk result (λ engine. engine.clock ≡ None) }
     {
         let shape = Shape::new(alloc, plan)?;
-        Ok(Hierarchical { shape, tests })
+        Ok(Hierarchical {
+            shape,
+            tests,
+            clock: None,
+        })
     }
 }
 
-impl<T> Hierarchical<T> {
+impl<T: Tests + Drop, C: EventClock + Drop> Hierarchical<T, C> {
+    /// Makes the engine of a plan and of its tests, as [`Hierarchical::new`], whose units read the
+    /// clock at each start, finish, skip and publication, until a body sets a stamp of its own.
+    ///
+    /// The events before and after the units are the plan's, and so are their stamps.
+    pub fn timed(
+        alloc: Global,
+        plan: Plan,
+        tests: T,
+        clock: C,
+    ) -> Result<Hierarchical<T, C>, AllocError>
+        ensures plan { IfOk result (λ engine. engine.shape.plan ≡ plan) }
+        ensures tests { IfOk result (λ engine. engine.tests ≡ tests) }
+        ensures timed { IfOk result (λ engine. engine.clock ≡ Some clock) }
+    {
+        let shape = Shape::new(alloc, plan)?;
+        Ok(Hierarchical {
+            shape,
+            tests,
+            clock: Some(clock),
+        })
+    }
+}
+
+impl<T, C> Hierarchical<T, C> {
     // Shows what holds around the units.
     pub(crate) fn shows_shape(&self)
         ensures around { KeepsAround (frame self.now.shape) }
@@ -48,9 +79,11 @@ impl<T> Hierarchical<T> {
     }
 }
 
-impl<T: Tests + Sync> Engine for Hierarchical<T> {
+impl<T: Tests + Sync, C: EventClock + Sync> Engine for Hierarchical<T, C> {
+    ghost use Rattle.std.specs.Prelude.{is_some};
     ghost use Rattle.tk_plan.specs.Masks.{need_of};
-    ghost use Rattle.tk_engine_hierarchical.specs.Laws.{may_of, test_rules};
+    ghost use Rattle.tk_engine_hierarchical.specs.Laws.{may_of};
+    ghost use Rattle.tk_engine_hierarchical.specs.TreeRuns.{test_rules};
     ghost use Rattle.tk_engine_unit_events.specs.Shapes.{frame};
 
     ghost table = { λ e. (frame e.shape).table };
@@ -63,7 +96,8 @@ impl<T: Tests + Sync> Engine for Hierarchical<T> {
 
     ghost need = { λ e unit. need_of e.shape.plan.nodes unit };
 
-    ghost may = { λ e. may_of e.shape (test_rules (T.may_end e.tests) (T.may_run e.tests)) };
+    ghost may = { λ e. may_of e.shape
+        (test_rules (is_some e.clock) (T.may_end e.tests) (T.may_run e.tests)) };
 
     fn table(&self) -> &Arc<Table> {
         self.shape.table()
@@ -95,10 +129,11 @@ impl<T: Tests + Sync> Engine for Hierarchical<T> {
     ) -> Result<(), UnitFault> {
         let lease = Lease { sink };
         let mut ran = Ok(());
-        let _lease = run_unit::<R, S, Brand, T>(
+        let _lease = run_unit::<R, S, Brand, T, C>(
             rt,
             alloc,
             &self.tests,
+            self.clock.as_ref(),
             &self.shape,
             unit,
             lease,

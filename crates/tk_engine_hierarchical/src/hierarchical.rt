@@ -1,5 +1,5 @@
 //! How a unit runs the tree of its nodes.
-ghost use Rattle.std.specs.Prelude.{◌≡◌, ◌⊎◌, ◌<◌, All, Err, IsTrue, None, OnOk, length};
+ghost use Rattle.std.specs.Prelude.{◌≡◌, ◌⊎◌, ◌<◌, All, Err, IsTrue, None, OnOk, is_some, length};
 ghost use Rattle.tk_engine_execute.specs.declared.engines.UnitFault.{UnitFault};
 ghost use Rattle.tk_engine_execute.specs.declared.engines.UnitFault.TheVariants.{Own};
 ghost use Rattle.tk_engine_execute.specs.Engines.{Extends, IsSameSender};
@@ -10,8 +10,9 @@ ghost use Rattle.tk_engine_unit_events.specs.Shapes.{count_units, frame, keys_in
 ghost use Rattle.tk_engine_unit_events.specs.Standing.{IsComplete};
 ghost use Rattle.tk_engine_hierarchical.specs.StaticSteps.{FitsPlan};
 ghost use Rattle.tk_engine_hierarchical.specs.steps.StaticSteps.{MayRun};
-ghost use Rattle.tk_engine_hierarchical.specs.TreeRuns.{RunsForest, RunsNode, RunsTree, RunsUnitTree};
+ghost use Rattle.tk_engine_hierarchical.specs.TreeRuns.{RunsForest, RunsNode, RunsTree, RunsUnitTree, test_rules};
 
+use crate::clocks::EventClock;
 use crate::planned_units::PlannedUnit;
 use crate::tests::Tests;
 use std::alloc::Global;
@@ -22,13 +23,13 @@ use tk_plan::{NumberedNode, Plan};
 
 // Runs a node that isn't skipped, and what stands below it, from its start to its finish.
 #[cycle(running)]
-fn run_started<R: Wait, S: Sink, K: UnitRun, T: Tests>(
+fn run_started<R: Wait, S: Sink, K: UnitRun, T: Tests, C: EventClock>(
     rt: &R,
     alloc: Global,
     tests: &T,
     numbered_node: &NumberedNode,
     below: &[NumberedNode],
-    unit: &mut PlannedUnit<'_, S, K>,
+    unit: &mut PlannedUnit<'_, S, K, C>,
 ) -> Result<(), UnitFault>
     requires below { IsForest below.now }
     requires runs { numbered_node.now.node.skip ≡ None }
@@ -49,12 +50,12 @@ fn run_started<R: Wait, S: Sink, K: UnitRun, T: Tests>(
 
 // Runs the trees that some nodes in preorder are, one after another.
 #[cycle(running)]
-fn run_all<R: Wait, S: Sink, K: UnitRun, T: Tests>(
+fn run_all<R: Wait, S: Sink, K: UnitRun, T: Tests, C: EventClock>(
     rt: &R,
     alloc: Global,
     tests: &T,
     nodes: &[NumberedNode],
-    unit: &mut PlannedUnit<'_, S, K>,
+    unit: &mut PlannedUnit<'_, S, K, C>,
 ) -> Result<(), UnitFault>
     requires nodes { IsForest nodes.now }
     requires may { All (MayRun K.unit (T.may_end tests.now)) nodes.now }
@@ -72,13 +73,13 @@ fn run_all<R: Wait, S: Sink, K: UnitRun, T: Tests>(
 
 // Runs or skips a node, and what stands below it.
 #[cycle(running)]
-fn run_tree<R: Wait, S: Sink, K: UnitRun, T: Tests>(
+fn run_tree<R: Wait, S: Sink, K: UnitRun, T: Tests, C: EventClock>(
     rt: &R,
     alloc: Global,
     tests: &T,
     numbered_node: &NumberedNode,
     below: &[NumberedNode],
-    unit: &mut PlannedUnit<'_, S, K>,
+    unit: &mut PlannedUnit<'_, S, K, C>,
 ) -> Result<(), UnitFault>
     requires below { IsForest below.now }
     requires may { MayRun K.unit (T.may_end tests.now) numbered_node.now }
@@ -109,10 +110,11 @@ fn unit_result(played: Result<(), UnitFault>, is_complete: bool) -> Result<(), U
 
 // Runs a unit into a sink that is lent, and gives the sink back. How the unit ended is left in
 // `ran`: in a pair with it the proof would lose that the sink is the one that was lent.
-pub(crate) fn run_unit<'a, R: Wait, S: Sink, K: UnitRun, T: Tests>(
+pub(crate) fn run_unit<'a, R: Wait, S: Sink, K: UnitRun, T: Tests, C: EventClock>(
     rt: &R,
     alloc: Global,
     tests: &T,
+    clock: Option<&'a C>,
     shape: &'a Shape,
     unit: u32,
     lease: Lease<'a, S>,
@@ -133,16 +135,18 @@ pub(crate) fn run_unit<'a, R: Wait, S: Sink, K: UnitRun, T: Tests>(
     ensures some { Extends K.unit.start (S.view result.sink.now) }
     ensures run { OnOk ran.new
         (IsComplete K.unit (S.view result.sink.now)) }
-    ensures tree { OnOk ran.new (RunsUnitTree shape.now.plan (T.may_run tests.now) unit
+    ensures tree { OnOk ran.new (RunsUnitTree shape.now.plan
+        (test_rules (is_some clock.entry) (T.may_end tests.now) (T.may_run tests.now)) unit
         K.unit.start (S.view result.sink.now)) }
 {
     let plan = shape.plan();
     // For the proof: what every plan is.
     let _table = plan.table();
     let tree = plan.unit_tree(unit);
-    let mut planned: PlannedUnit<'a, S, K> = PlannedUnit {
+    let mut planned: PlannedUnit<'a, S, K, C> = PlannedUnit {
         events: UnitEvents::begin(alloc, lease, shape, unit),
         next: tree.first,
+        clock,
     };
     let played = run_tree(rt, alloc, tests, tree.top, tree.below, &mut planned);
     let PlannedUnit { events, .. } = planned;

@@ -2,6 +2,7 @@
 #![tactic(auto)]
 
 mod causes;
+mod clocks;
 mod contexts;
 mod engines;
 mod hierarchical;
@@ -11,6 +12,7 @@ mod reporters;
 mod runs;
 mod tests;
 
+pub use clocks::{EventClock, NoClock};
 pub use contexts::Context;
 pub use engines::Hierarchical;
 pub use reporters::Reporter;

@@ -1,15 +1,15 @@
 //! A unit that runs as its plan says.
-ghost use Rattle.std.specs.Prelude.{◌≡◌, ◌<◌, ℕ, IfErr, IfNone, IfOk, IfSome, OnOk, length, unwrap_or};
+ghost use Rattle.std.specs.Prelude.{◌≡◌, ◌<◌, ℕ, IfErr, IfNone, IfOk, IfSome, None, OnOk, is_some, length};
 ghost use Rattle.tk_engine_execute.specs.Engines.{Extends};
-ghost use Rattle.tk_events.specs.declared.kinds.Kind.TheVariants.{File, Finished, Reporting};
-ghost use Rattle.tk_events.specs.declared.kinds.Kind.TheVariants.{Skipped, Started};
+ghost use Rattle.tk_events.specs.declared.kinds.Kind.TheVariants.{Finished, Skipped, Started};
 ghost use Rattle.tk_events.specs.declared.payloads.Payload.TheVariants.{Nothing, Outcome as Ended};
-ghost use Rattle.tk_events.specs.declared.payloads.Payload.TheVariants.{Path, Reason, Report};
+ghost use Rattle.tk_events.specs.declared.payloads.Payload.TheVariants.{Reason};
 ghost use Rattle.tk_engine_unit_events.specs.Endings.{IsStaticTest, payload_of};
-ghost use Rattle.tk_engine_unit_events.specs.UnitSteps.{HasFinished, event};
+ghost use Rattle.tk_engine_unit_events.specs.UnitSteps.{event};
 ghost use Rattle.tk_engine_hierarchical.specs.Reporting.{FailsOrDrops};
-ghost use Rattle.tk_engine_hierarchical.specs.TreeRuns.{FinishesNode, RunsBody, SkipsNode, StartsNode, after_each, after_next, after_publishing, child_of_node, plan_state, stamp_after};
+ghost use Rattle.tk_engine_hierarchical.specs.TreeRuns.{FinishesNext, FinishesNode, IsNextStamp, Publishes, PublishesEntries, PublishesFiles, RunsBody, SkipsNode, StartsNode, after_position, body_stamp, child_of_node};
 
+use crate::clocks::EventClock;
 use crate::contexts::{Context, InUnit};
 use crate::reporters::Reporter;
 use crate::tests::{Tests, payload_of};
@@ -50,12 +50,13 @@ fn run_test<'a, C: Context, T: Tests>(
 
 // A static test of this key, as a body.
 #[derive(Drop)]
-struct TestBody<'t, T> {
+struct TestBody<'t, T, C> {
     tests: &'t T,
+    clock: Option<&'t C>,
     key: u32,
 }
 
-impl<'t, T: Tests> UnitBody for TestBody<'t, T> {
+impl<'t, T: Tests, C: EventClock> UnitBody for TestBody<'t, T, C> {
     ghost use Rattle.tk_engine_hierarchical.specs.Reporting.{FailsOrDrops};
 
     ghost may_end = { λ body. T.may_end body.tests.now body.key };
@@ -72,8 +73,8 @@ impl<'t, T: Tests> UnitBody for TestBody<'t, T> {
         events: UnitEvents<'a, S, K>,
         ended: &mut Result<Outcome, UnitFault>,
     ) -> UnitEvents<'a, S, K> {
-        let test = Reporter::new(rt, alloc, events);
-        run_test::<InUnit<R, S, K>, T>(self.tests, self.key, test, ended)
+        let test = Reporter::new(rt, alloc, self.clock, events);
+        run_test::<InUnit<R, S, K, C>, T>(self.tests, self.key, test, ended)
     }
 }
 
@@ -88,31 +89,47 @@ fn child_of(node: &Node) -> Child<'_>
     }
 }
 
-/// A unit that runs as its plan says. Contracts see the unit, and the stamp that the plan has for
-/// its next event: the event's position in the root's script.
+/// A unit that runs as its plan says. Contracts see the unit, the position of its next event in the
+/// root's script, and whether a clock gives the stamps.
 #[derive(Drop)]
-pub(crate) struct PlannedUnit<'a, S: Sink, K: UnitRun> {
+pub(crate) struct PlannedUnit<'a, S: Sink, K: UnitRun, C> {
     pub(crate) events: UnitEvents<'a, S, K>,
     pub(crate) next: u64,
+    pub(crate) clock: Option<&'a C>,
 }
 
-impl<'a, S: Sink, K: UnitRun> Model for PlannedUnit<'a, S, K> {
+impl<'a, S: Sink, K: UnitRun, C> Model for PlannedUnit<'a, S, K, C> {
+    ghost use Rattle.std.specs.Prelude.{is_some};
     ghost use Rattle.tk_engine_hierarchical.specs.TreeRuns.{PlanState, plan_state};
 
     ghost Value = { PlanState };
 
-    ghost view = { λ u. plan_state u.events u.next };
+    ghost view = { λ u. plan_state u.events u.next (is_some u.clock) };
 }
 
-impl<'a, S: Sink, K: UnitRun> PlannedUnit<'a, S, K> {
-    // Takes the stamp of the next event. The greatest one is taken again and again.
+impl<'a, S: Sink, K: UnitRun, C: EventClock> PlannedUnit<'a, S, K, C> {
+    // Takes the stamp of the next event: its position, or what the clock reads. The greatest
+    // position is taken again and again.
     fn take_stamp(&mut self) -> u64
-        ensures stamp { result ≡ self.old.next }
-        ensures next { self.new ≡ plan_state self.old.unit (stamp_after self.old.next) }
+        ensures stamp { IsNextStamp self.old result }
+        ensures next { self.new ≡ after_position self.old }
     {
-        let stamp = self.next;
-        self.next = stamp.saturating_add(1);
-        stamp
+        let position = self.next;
+        self.next = position.saturating_add(1);
+        match self.clock {
+            Some(clock) => clock.stamp(),
+            None => position,
+        }
+    }
+
+    // The stamp at which the body publishes of a test that started at this one.
+    fn body_stamp(&self, stamp: u64) -> Option<u64>
+        ensures { result ≡ body_stamp self.now.is_timed stamp }
+    {
+        match self.clock {
+            Some(_) => None,
+            None => Some(stamp),
+        }
     }
 
     /// Starts a node, and answers its key. A static node's key is its number; any other node is
@@ -133,13 +150,15 @@ impl<'a, S: Sink, K: UnitRun> PlannedUnit<'a, S, K> {
         if numbered_node.node.is_static {
             let key = numbered_node.number;
             let stamp = self.take_stamp();
-            self.events.set_planned_stamp(stamp);
+            let published = self.body_stamp(stamp);
+            self.events.set_planned_stamp(published);
             self.events.start(rt, key, stamp)?;
             return Ok(key);
         }
         let registered = self.take_stamp();
         let stamp = self.take_stamp();
-        self.events.set_planned_stamp(stamp);
+        let published = self.body_stamp(stamp);
+        self.events.set_planned_stamp(published);
         let child = child_of(&numbered_node.node);
         self.events
             .start_child(rt, alloc, &child, registered, stamp)
@@ -183,9 +202,13 @@ impl<'a, S: Sink, K: UnitRun> PlannedUnit<'a, S, K> {
             T.may_run tests.now key self.old.unit self.new.unit e.outcome) }
         ensures later { Extends self.old.unit.sink self.new.unit.sink }
         ensures stamp { IfOk result (λ e. e.stamp ≡ self.new.unit.own_stamp) }
-        ensures next { self.new.next ≡ self.old.next }
+        ensures next { self.new ≡ record self.old { unit = self.new.unit } }
     {
-        let body = TestBody { tests, key };
+        let body = TestBody {
+            tests,
+            clock: self.clock,
+            key,
+        };
         let outcome = self.events.run_body(rt, alloc, &body)?;
         Ok(TestEnd {
             outcome,
@@ -208,7 +231,7 @@ impl<'a, S: Sink, K: UnitRun> PlannedUnit<'a, S, K> {
             IfNone ended (¬ IsStaticTest K.unit.frame.table key)) }
         ensures body { IfOk result (λ ended. RunsBody K.unit.frame.table (T.may_run tests.now) key
             self.old.unit self.new.unit ended) }
-        ensures next { self.new.next ≡ self.old.next }
+        ensures next { self.new ≡ record self.old { unit = self.new.unit } }
     {
         if !self.events.is_static_test(key) {
             return Ok(None);
@@ -225,8 +248,7 @@ impl<'a, S: Sink, K: UnitRun> PlannedUnit<'a, S, K> {
         key: u32,
         entries: &[Pairs],
     ) -> Result<(), UnitFault>
-        ensures { OnOk result (self.new ≡ after_each
-            (λ pairs. after_next Reporting key (Report pairs)) entries.now self.old) }
+        ensures { OnOk result (PublishesEntries entries.now key self.old self.new) }
     {
         for pairs in entries {
             let pairs = Payload::Report(pairs.try_clone(alloc)?);
@@ -239,8 +261,7 @@ impl<'a, S: Sink, K: UnitRun> PlannedUnit<'a, S, K> {
 
     // Publishes the files that the plan has for a node.
     fn publish_files<R: Wait>(&mut self, rt: &R, key: u32, files: &[Text]) -> Result<(), UnitFault>
-        ensures { OnOk result (self.new ≡ after_each
-            (λ path. after_next File key (Path path)) files.now self.old) }
+        ensures { OnOk result (PublishesFiles files.now key self.old self.new) }
     {
         for path in files {
             let path = Payload::Path(path.try_clone()?);
@@ -259,46 +280,26 @@ impl<'a, S: Sink, K: UnitRun> PlannedUnit<'a, S, K> {
         key: u32,
         node: &Node,
     ) -> Result<(), UnitFault>
-        ensures { OnOk result (self.new ≡ after_publishing node.now key self.old) }
+        ensures { OnOk result (Publishes node.now key self.old self.new) }
     {
         self.publish_entries(rt, alloc, key, node.entries.as_slice())?;
         self.publish_files(rt, key, node.files.as_slice())
     }
 
-    // Finishes a test with its outcome, at the stamp that it set, or else at the plan's.
-    fn finish_test<R: Wait>(
+    // Finishes a key, at the stamp that its body set, or else at that of the next event.
+    fn finish_key<R: Wait>(
         &mut self,
         rt: &R,
         key: u32,
-        test: TestEnd,
-        planned: u64,
-    ) -> Result<(), UnitFault>
-        requires { key < length K.unit.frame.table → (stamp : ℕ)
-            → K.unit.may_step (event Finished key stamp (payload_of test.outcome)) }
-        ensures finished { OnOk result (HasFinished self.old.unit self.new.unit
-            (event Finished key (unwrap_or test.stamp planned) (payload_of test.outcome))) }
-        ensures next { self.new.next ≡ self.old.next }
-    {
-        let stamp = test.stamp.unwrap_or(planned);
-        let outcome = payload_of(test.outcome);
-        self.events.finish(rt, key, stamp, outcome)
-    }
-
-    // Finishes a node that has no body with the outcome that the plan has for it.
-    fn finish_without_body<R: Wait>(
-        &mut self,
-        rt: &R,
-        key: u32,
-        node: &Node,
-        stamp: u64,
+        own_stamp: Option<u64>,
+        outcome: Payload,
     ) -> Result<(), UnitFault>
         requires { key < length K.unit.frame.table
-            → K.unit.may_step (event Finished key stamp (Ended node.now.status node.now.message)) }
-        ensures finished { OnOk result (HasFinished self.old.unit self.new.unit
-            (event Finished key stamp (Ended node.now.status node.now.message))) }
-        ensures next { self.new.next ≡ self.old.next }
+            → (stamp : ℕ) → K.unit.may_step (event Finished key stamp outcome) }
+        ensures { OnOk result (FinishesNext key own_stamp outcome self.old self.new) }
     {
-        let outcome = Payload::Outcome(node.status, try_clone_message(&node.message)?);
+        let next = self.take_stamp();
+        let stamp = own_stamp.unwrap_or(next);
         self.events.finish(rt, key, stamp, outcome)
     }
 
@@ -316,10 +317,12 @@ impl<'a, S: Sink, K: UnitRun> PlannedUnit<'a, S, K> {
             → K.unit.may_step (event Finished key stamp (Ended node.now.status node.now.message))) }
         ensures { OnOk result (FinishesNode node.now key ended self.old self.new) }
     {
-        let stamp = self.take_stamp();
         match ended {
-            Some(test) => self.finish_test(rt, key, test, stamp),
-            None => self.finish_without_body(rt, key, node, stamp),
+            Some(test) => self.finish_key(rt, key, test.stamp, payload_of(test.outcome)),
+            None => {
+                let message = try_clone_message(&node.message)?;
+                self.finish_key(rt, key, None, Payload::Outcome(node.status, message))
+            }
         }
     }
 }

@@ -1,5 +1,5 @@
 //! What a test publishes while it runs.
-ghost use Rattle.std.specs.Prelude.{◌≡◌, ◌⊎◌, ◌≤◌, ◌∷◌, [], ℕ, Err, IfErr, IfOk, None, Ok, OnErr, OnOk, Some, length};
+ghost use Rattle.std.specs.Prelude.{◌≡◌, ◌⊎◌, ◌≤◌, ◌∷◌, [], Err, IfErr, IfOk, None, Ok, OnErr, OnOk, Some, length};
 ghost use Rattle.tk_ids.specs.declared.descriptors.Descriptor.{Descriptor as DescriptorView};
 ghost use Rattle.tk_ids.specs.declared.descriptors.DType.TheVariants.{Container, Test};
 ghost use Rattle.tk_events.specs.declared.kinds.Kind.TheVariants as kinds;
@@ -8,12 +8,13 @@ ghost use Rattle.tk_engine_execute.specs.declared.engines.UnitFault.{UnitFault};
 ghost use Rattle.tk_engine_execute.specs.declared.engines.UnitFault.TheVariants.{Own};
 ghost use Rattle.tk_engine_unit_events.specs.Endings.{payload_of};
 ghost use Rattle.tk_engine_hierarchical.specs.Causes.{first_cause};
-ghost use Rattle.tk_engine_hierarchical.specs.Reporting.{EndsChild, FailsOrDrops, HasFailedDynamic, HasRunDynamic, HasStoppedDynamic, IsDynamicCause, IsSegmentCause, IsTextCause, dynamic_start, entry_at, file_at, named_child, segment_view, skip_at};
-ghost use Rattle.tk_engine_unit_events.specs.Refusals.{IsChildCause, IsInnermostCause, IsPublishCause, child_start};
+ghost use Rattle.tk_engine_hierarchical.specs.Reporting.{AtStamp, EndsChild, FailsOrDrops, HasFailedDynamic, HasRunDynamic, HasSkippedDynamic, HasStoppedDynamic, IsDynamicCause, IsEventCause, IsSegmentCause, IsStampOf, IsTextCause, PublishedNow, dynamic_skip, dynamic_start, entry_at, file_at, named_child, segment_view};
+ghost use Rattle.tk_engine_unit_events.specs.Refusals.{IsChildCause, IsInnermostCause};
 ghost use Rattle.tk_engine_unit_events.specs.Taken.{IsFaultOfTaken, IsTaken};
-ghost use Rattle.tk_engine_unit_events.specs.UnitSteps.{Grew, HasFinished, HasSkipped, IsInnermost, Published, child_request, event};
+ghost use Rattle.tk_engine_unit_events.specs.UnitSteps.{Grew, HasFinished, IsInnermost, event};
 
 use crate::causes::{cause_of, ending};
+use crate::clocks::EventClock;
 use crate::contexts::{Context, InUnit};
 use crate::tests::{Body, payload_of};
 use std::alloc::Global;
@@ -32,6 +33,7 @@ use tk_ids::{DType, Descriptor, Segment, Text};
 pub struct Reporter<'r, 'a, C: Context> {
     rt: &'r C::Runtime,
     alloc: Global,
+    clock: Option<&'r C::Clock>,
     pub(crate) events: UnitEvents<'a, C::Sink, C::Run>,
     pub(crate) child_fault: Option<UnitFault>,
 }
@@ -56,11 +58,12 @@ fn run_body<'a, C: Context, B: Body>(
 
 // A body that publishes through a reporter.
 #[derive(Drop)]
-struct ReportingBody<'b, B> {
+struct ReportingBody<'b, B, C> {
     body: &'b B,
+    clock: Option<&'b C>,
 }
 
-impl<'b, B: Body> UnitBody for ReportingBody<'b, B> {
+impl<'b, B: Body, C: EventClock> UnitBody for ReportingBody<'b, B, C> {
     ghost use Rattle.tk_engine_hierarchical.specs.Reporting.{FailsOrDrops};
 
     ghost may_end = { λ reporting. B.may_end reporting.body.now };
@@ -77,8 +80,8 @@ impl<'b, B: Body> UnitBody for ReportingBody<'b, B> {
         events: UnitEvents<'a, S, K>,
         ended: &mut Result<Outcome, UnitFault>,
     ) -> UnitEvents<'a, S, K> {
-        let test = Reporter::new(rt, alloc, events);
-        run_body::<InUnit<R, S, K>, B>(self.body, test, ended)
+        let test = Reporter::new(rt, alloc, self.clock, events);
+        run_body::<InUnit<R, S, K, C>, B>(self.body, test, ended)
     }
 }
 
@@ -91,10 +94,11 @@ fn segment_of(alloc: Global, segment: (&str, &str)) -> Result<Segment, UnitFault
 }
 
 impl<'r, 'a, C: Context> Reporter<'r, 'a, C> {
-    /// Publishes into these events.
+    /// Publishes into these events, at what the clock reads where they have no stamp.
     pub(crate) fn new(
         rt: &'r C::Runtime,
         alloc: Global,
+        clock: Option<&'r C::Clock>,
         events: UnitEvents<'a, C::Sink, C::Run>,
     ) -> Reporter<'r, 'a, C>
         ensures events { result.events ≡ events.entry }
@@ -103,6 +107,7 @@ impl<'r, 'a, C: Context> Reporter<'r, 'a, C> {
         Reporter {
             rt,
             alloc,
+            clock,
             events,
             child_fault: None,
         }
@@ -153,17 +158,32 @@ impl<'r, 'a, C: Context> Reporter<'r, 'a, C> {
         ended
     }
 
+    // The stamp of what happens now.
+    fn stamp(&self) -> u64
+        ensures { IsStampOf self.now.events result }
+    {
+        if let Some(stamp) = self.events.stamp() {
+            return stamp;
+        }
+        match self.clock {
+            Some(clock) => clock.stamp(),
+            None => 0,
+        }
+    }
+
     /// Finishes a dynamic key, which has to be the innermost running one.
     pub(crate) fn finish(&mut self, key: u32, outcome: Outcome) -> Result<(), UnitFault>
         requires { length C.Run.unit.frame.table ≤ key }
-        ensures ok { OnOk result (HasFinished self.old.events self.new.events
-            (event kinds.Finished key self.old.events.stamp (payload_of outcome))) }
+        ensures ok { OnOk result (AtStamp self.old.events (λ stamp.
+            HasFinished self.old.events self.new.events
+            (event kinds.Finished key stamp (payload_of outcome)))) }
         ensures err { OnErr result (self.new.events ≡ self.old.events) }
-        ensures cause { IfErr result (IsInnermostCause self.old.events
-            (event kinds.Finished key self.old.events.stamp (payload_of outcome))) }
+        ensures cause { IfErr result (λ why. AtStamp self.old.events (λ stamp.
+            IsInnermostCause self.old.events
+            (event kinds.Finished key stamp (payload_of outcome)) why)) }
         ensures kept { self.new.child_fault ≡ self.old.child_fault }
     {
-        let stamp = self.events.stamp();
+        let stamp = self.stamp();
         self.events.finish(self.rt, key, stamp, payload_of(outcome))
     }
 
@@ -180,16 +200,18 @@ impl<'r, 'a, C: Context> Reporter<'r, 'a, C> {
         ensures free { OnOk result (¬ IsTaken C.Run.unit self.old.events child.now.segment) }
         ensures taken { IfErr result (λ why. IsTaken C.Run.unit self.old.events child.now.segment
             → IsFaultOfTaken why × (self.new.events ≡ self.old.events)) }
-        ensures cause { IfErr result (λ why.
-            IsChildCause C.Run.unit self.old.events
-            (dynamic_start child.now self.old.events.stamp) why
+        ensures cause { IfErr result (λ why. AtStamp self.old.events (λ stamp.
+            IsChildCause C.Run.unit self.old.events (dynamic_start child.now stamp) why)
             ⊎ HasStoppedDynamic (B.may_run body.now) (B.may_fail body.now)
             self.old.events self.new.events child.now why) }
     {
         let (rt, alloc) = (self.rt, self.alloc);
-        let stamp = self.events.stamp();
+        let stamp = self.stamp();
         let key = self.events.start_child(rt, alloc, child, stamp, stamp)?;
-        let body = ReportingBody { body };
+        let body = ReportingBody {
+            body,
+            clock: self.clock,
+        };
         let ended = self.events.run_body(rt, alloc, &body);
         let outcome = self.note(ended)?;
         let finished = self.finish(key, outcome);
@@ -220,8 +242,8 @@ impl<'r, 'a, C: Context> Reporter<'r, 'a, C> {
             IsTaken C.Run.unit self.old.events (segment_view segment.entry)
             → IsFaultOfTaken why × (self.new.events ≡ self.old.events)) }
         ensures cause { IfErr result (λ why.
-            IsDynamicCause C.Run.unit self.old.events (dynamic_start
-            (named_child dtype segment.entry name.now) self.old.events.stamp) why
+            IsDynamicCause C.Run.unit self.old.events (segment_view segment.entry)
+            (dynamic_start (named_child dtype segment.entry name.now)) why
             ⊎ HasStoppedDynamic (B.may_run body.now) (B.may_fail body.now)
             self.old.events self.new.events (named_child dtype segment.entry name.now) why) }
     {
@@ -263,13 +285,15 @@ impl<'r, 'a, C: Context> Reporter<'r, 'a, C> {
         self.events.descriptor()
     }
 
-    /// Sets the stamp of what is published from now on, by the bodies below too, and of the finish
-    /// of the static test that runs, for instance the microseconds since the run began.
+    /// Sets the stamp of what happens from now on, in the bodies below too, up to the finish of the
+    /// static test that runs, for instance the microseconds since the run began.
     ///
-    /// Until then what is published has the stamp that the plan has for the test's start.
+    /// Until then it has the stamp of the test's start, or of a timed engine what the clock reads.
+    /// A stamp that is a position is no time: of an engine that isn't timed, the difference of two
+    /// stamps is a duration only where bodies set both.
     pub fn set_stamp(&mut self, stamp: u64)
         ensures stamp { self.new.events
-            ≡ record self.old.events { stamp = stamp; own_stamp = Some stamp } }
+            ≡ record self.old.events { stamp = Some stamp; own_stamp = Some stamp } }
         ensures kept { self.new.child_fault ≡ self.old.child_fault }
     {
         self.events.set_stamp(stamp);
@@ -280,11 +304,11 @@ impl<'r, 'a, C: Context> Reporter<'r, 'a, C> {
     /// # Errors
     /// `Memory`, or the fault of the sink.
     pub fn report(&mut self, key: &str, value: &str) -> Result<(), UnitFault>
-        ensures ok { OnOk result ((above : ℕ) × Published self.old.events self.new.events
-            (entry_at self.old.events ((key.now, value.now) ∷ []) above)) }
+        ensures ok { OnOk result (PublishedNow self.old.events self.new.events
+            (entry_at ((key.now, value.now) ∷ []))) }
         ensures err { OnErr result (self.new.events ≡ self.old.events) }
         ensures cause { IfErr result (IsTextCause self.old.events
-            (entry_at self.old.events ((key.now, value.now) ∷ []))) }
+            (entry_at ((key.now, value.now) ∷ []))) }
         ensures kept { self.new.child_fault ≡ self.old.child_fault }
     {
         let key = Text::copy(self.alloc, key)?;
@@ -298,14 +322,13 @@ impl<'r, 'a, C: Context> Reporter<'r, 'a, C> {
     /// # Errors
     /// The fault of the sink, such as `Unlawful` where the keys don't.
     pub fn report_pairs(&mut self, pairs: Pairs) -> Result<(), UnitFault>
-        ensures ok { OnOk result ((above : ℕ) × Published self.old.events self.new.events
-            (entry_at self.old.events pairs above)) }
+        ensures ok { OnOk result (PublishedNow self.old.events self.new.events
+            (entry_at pairs)) }
         ensures err { OnErr result (self.new.events ≡ self.old.events) }
-        ensures cause { IfErr result
-            (IsPublishCause self.old.events (entry_at self.old.events pairs)) }
+        ensures cause { IfErr result (IsEventCause self.old.events (entry_at pairs)) }
         ensures kept { self.new.child_fault ≡ self.old.child_fault }
     {
-        let (stamp, pairs) = (self.events.stamp(), Payload::Report(pairs));
+        let (stamp, pairs) = (self.stamp(), Payload::Report(pairs));
         self.events.publish(self.rt, Kind::Reporting, stamp, pairs)
     }
 
@@ -314,15 +337,14 @@ impl<'r, 'a, C: Context> Reporter<'r, 'a, C> {
     /// # Errors
     /// `Memory`, or the fault of the sink, such as `Unlawful` where the path is empty.
     pub fn file(&mut self, path: &str) -> Result<(), UnitFault>
-        ensures ok { OnOk result ((above : ℕ) × Published self.old.events self.new.events
-            (file_at self.old.events path.now above)) }
+        ensures ok { OnOk result (PublishedNow self.old.events self.new.events
+            (file_at path.now)) }
         ensures err { OnErr result (self.new.events ≡ self.old.events) }
-        ensures cause { IfErr result
-            (IsTextCause self.old.events (file_at self.old.events path.now)) }
+        ensures cause { IfErr result (IsTextCause self.old.events (file_at path.now)) }
         ensures kept { self.new.child_fault ≡ self.old.child_fault }
     {
         let path = Payload::Path(Text::copy(self.alloc, path)?);
-        let stamp = self.events.stamp();
+        let stamp = self.stamp();
         self.events.publish(self.rt, Kind::File, stamp, path)
     }
 
@@ -361,8 +383,8 @@ impl<'r, 'a, C: Context> Reporter<'r, 'a, C> {
             IsTaken C.Run.unit self.old.events (segment_view segment.entry)
             → IsFaultOfTaken why × (self.new.events ≡ self.old.events)) }
         ensures cause { IfErr result (λ why.
-            IsDynamicCause C.Run.unit self.old.events (dynamic_start
-            (named_child Test segment.entry name.now) self.old.events.stamp) why
+            IsDynamicCause C.Run.unit self.old.events (segment_view segment.entry)
+            (dynamic_start (named_child Test segment.entry name.now)) why
             ⊎ HasStoppedDynamic (B.may_run body.now) (B.may_fail body.now)
             self.old.events self.new.events (named_child Test segment.entry name.now) why) }
         // Whatever the body does.
@@ -402,8 +424,8 @@ impl<'r, 'a, C: Context> Reporter<'r, 'a, C> {
             IsTaken C.Run.unit self.old.events (segment_view segment.entry)
             → IsFaultOfTaken why × (self.new.events ≡ self.old.events)) }
         ensures cause { IfErr result (λ why.
-            IsDynamicCause C.Run.unit self.old.events (dynamic_start
-            (named_child Container segment.entry name.now) self.old.events.stamp) why
+            IsDynamicCause C.Run.unit self.old.events (segment_view segment.entry)
+            (dynamic_start (named_child Container segment.entry name.now)) why
             ⊎ HasStoppedDynamic (B.may_run body.now) (B.may_fail body.now)
             self.old.events self.new.events (named_child Container segment.entry name.now) why) }
         // Whatever the body does.
@@ -425,10 +447,8 @@ impl<'r, 'a, C: Context> Reporter<'r, 'a, C> {
         name: &str,
         reason: &str,
     ) -> Result<(), UnitFault>
-        ensures ok { OnOk result ((above : ℕ) × (key : ℕ)
-            × HasSkipped self.old.events self.new.events
-            (child_request (named_child Test segment.entry name.now) above self.old.events.stamp)
-            (skip_at self.old.events reason.now key)) }
+        ensures ok { OnOk result (HasSkippedDynamic self.old.events self.new.events
+            (named_child Test segment.entry name.now) reason.now) }
         ensures err { OnErr result (Grew self.old.events self.new.events) }
         ensures free { OnOk result
             (¬ IsTaken C.Run.unit self.old.events (segment_view segment.entry)) }
@@ -436,8 +456,8 @@ impl<'r, 'a, C: Context> Reporter<'r, 'a, C> {
             IsTaken C.Run.unit self.old.events (segment_view segment.entry)
             → IsFaultOfTaken why × (self.new.events ≡ self.old.events)) }
         ensures cause { IfErr result (IsDynamicCause C.Run.unit self.old.events
-            (child_start (named_child Test segment.entry name.now) self.old.events.stamp
-            (skip_at self.old.events reason.now))) }
+            (segment_view segment.entry)
+            (dynamic_skip (named_child Test segment.entry name.now) reason.now)) }
         ensures kept { self.new.child_fault ≡ self.old.child_fault }
     {
         let reason = Payload::Reason(Text::copy(self.alloc, reason)?);
@@ -447,7 +467,7 @@ impl<'r, 'a, C: Context> Reporter<'r, 'a, C> {
             name,
             dtype: DType::Test,
         };
-        let stamp = self.events.stamp();
+        let stamp = self.stamp();
         self.events
             .skip_child(self.rt, self.alloc, &child, stamp, stamp, reason)
     }

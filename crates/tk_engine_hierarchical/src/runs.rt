@@ -1,5 +1,5 @@
 //! The run of an engine of tests, and what holds of its record.
-ghost use Rattle.std.specs.Prelude.{◌≡◌, ◌↔◌, ℕ, ◌<◌, ◌≤◌, ◌⊎◌, Err, IfErr, IfOk};
+ghost use Rattle.std.specs.Prelude.{◌≡◌, ◌↔◌, ℕ, ◌<◌, ◌≤◌, ◌⊎◌, Err, IfErr, IfOk, is_some};
 ghost use Rattle.tk_queue_session.specs.Limits.{capacity_of};
 ghost use Rattle.tk_query_lifecycle.specs.KeepsLifecycle.{KeepsLifecycle};
 ghost use Rattle.tk_engine_execute.specs.Faults.{IsFaultOfRun};
@@ -7,10 +7,12 @@ ghost use Rattle.tk_engine_execute.specs.Results.{IsTallied};
 ghost use Rattle.tk_engine_execute.specs.declared.engines.UnitFault.{UnitFault};
 ghost use Rattle.tk_plan_laws.specs.Laws.{IsKept};
 ghost use Rattle.tk_engine_hierarchical.specs.Laws.{FollowsPlan, HasOutcomes, HaveTurns, IsRunOf};
-ghost use Rattle.tk_engine_hierarchical.specs.Laws.{UnitsNest, UnitsRanTrees, test_rules};
+ghost use Rattle.tk_engine_hierarchical.specs.Laws.{UnitsNest, UnitsRanTrees};
 ghost use Rattle.tk_engine_hierarchical.specs.Runs.{IsRunBy};
+ghost use Rattle.tk_engine_hierarchical.specs.TreeRuns.{test_rules};
 ghost use Rattle.tk_engine_unit_events.specs.Shapes.{count_units};
 
+use crate::clocks::EventClock;
 use crate::engines::Hierarchical;
 use crate::laws::{due_keys_run, lifecycle, nesting, outcomes, steps, trees, turns};
 use crate::tests::Tests;
@@ -22,9 +24,10 @@ use tk_engine_execute::{Results, RunFault, execute};
 use tk_queue_session::MAX_CAPACITY;
 
 // Shows what holds of the record of each run of the engine.
-fn shows_laws<T: Tests + Sync>(engine: &Hierarchical<T>, results: &Results)
+fn shows_laws<T: Tests + Sync, C: EventClock + Sync>(engine: &Hierarchical<T, C>, results: &Results)
     requires { IsRunOf engine.now.shape
-        (test_rules (T.may_end engine.now.tests) (T.may_run engine.now.tests))
+        (test_rules (is_some engine.now.clock) (T.may_end engine.now.tests)
+        (T.may_run engine.now.tests))
         results.now.recorded }
     ensures lifecycle { KeepsLifecycle results.now.recorded }
     ensures kept { IsKept results.now.recorded }
@@ -33,8 +36,9 @@ fn shows_laws<T: Tests + Sync>(engine: &Hierarchical<T>, results: &Results)
     ensures steps { FollowsPlan engine.now.shape.plan (T.may_end engine.now.tests)
         results.now.recorded }
     ensures nesting { UnitsNest results.now.recorded }
-    ensures trees { UnitsRanTrees engine.now.shape.plan (T.may_run engine.now.tests)
-        results.now.recorded }
+    ensures trees { UnitsRanTrees engine.now.shape.plan
+        (test_rules (is_some engine.now.clock) (T.may_end engine.now.tests)
+        (T.may_run engine.now.tests)) results.now.recorded }
 {
     lifecycle(engine, results);
     due_keys_run(engine, results);
@@ -63,15 +67,16 @@ fn shows_laws<T: Tests + Sync>(engine: &Hierarchical<T>, results: &Results)
 ///
 /// # Errors
 /// Those of [`execute`]. To keep the record of a run that failed, call `execute_keeping_record`.
-pub fn run_tests<R: Threads + Wait + Sync, T: Tests + Sync>(
+pub fn run_tests<R: Threads + Wait + Sync, T: Tests + Sync, C: EventClock + Sync>(
     rt: &R,
     alloc: Global,
-    engine: &Hierarchical<T>,
+    engine: &Hierarchical<T, C>,
     workers: usize,
     capacity: usize,
 ) -> Result<Results, RunFault>
     ensures run { IfOk result (λ r. IsRunBy engine.now.shape
-        (test_rules (T.may_end engine.now.tests) (T.may_run engine.now.tests))
+        (test_rules (is_some engine.now.clock) (T.may_end engine.now.tests)
+        (T.may_run engine.now.tests))
         workers r.recorded) }
     ensures lifecycle { IfOk result (λ r. KeepsLifecycle r.recorded) }
     ensures kept { IfOk result (λ r. IsKept r.recorded) }
@@ -81,7 +86,9 @@ pub fn run_tests<R: Threads + Wait + Sync, T: Tests + Sync>(
         FollowsPlan engine.now.shape.plan (T.may_end engine.now.tests) r.recorded) }
     ensures nesting { IfOk result (λ r. UnitsNest r.recorded) }
     ensures trees { IfOk result (λ r.
-        UnitsRanTrees engine.now.shape.plan (T.may_run engine.now.tests) r.recorded) }
+        UnitsRanTrees engine.now.shape.plan
+        (test_rules (is_some engine.now.clock) (T.may_end engine.now.tests)
+        (T.may_run engine.now.tests)) r.recorded) }
     ensures tally { IfOk result (λ r. IsTallied workers r.closed r.recorded.entries) }
     ensures of_capacity { IfOk result (λ r. capacity_of r.closed.session ≡ capacity) }
     ensures workers { (result ≡ Err RunFault.Workers) ↔ ((workers ≡ 0) ⊎ (MAX_WORKERS < workers)) }

@@ -16,11 +16,12 @@ use Rattle.tk_engine_execute.specs.declared.engines.UnitFault.{UnitFault}
 use Rattle.tk_engine_unit_events.specs.declared.outcomes.Outcome.{Outcome}
 
 -- what contracts see of a unit that runs: its sink, the keys that run, innermost first, the stamp
--- of what a body publishes, and the one that the static test that runs has set
+-- of what a body publishes, where no clock gives it, and the one that the static test that runs has
+-- set
 pub record UnitView : Type 0 where
   pub sink : SenderView
   pub running : List ℕ
-  pub stamp : ℕ
+  pub stamp : Option ℕ
   pub own_stamp : Option ℕ
 
 abbrev pub event : Kind → ℕ → ℕ → Payload → Event
@@ -134,4 +135,4 @@ pub record IsInnermost (table : List Descriptor) (running : List ℕ) (d : Descr
 
 -- a unit of which no key runs
 abbrev pub begun : SenderView → UnitView
-begun sink = record { sink = sink; running = []; stamp = 0; own_stamp = None }
+begun sink = record { sink = sink; running = []; stamp = None; own_stamp = None }

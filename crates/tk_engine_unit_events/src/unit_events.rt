@@ -48,8 +48,8 @@ impl<'a> Model for Child<'a> {
 }
 
 /// Where a unit stands: its number, the end of its static keys, which keys run, which ids it has
-/// registered, the next static key, the stamp of what a body publishes, and the one that the static
-/// test that runs has set.
+/// registered, the next static key, the stamp of what a body publishes, where no clock gives it, and
+/// the one that the static test that runs has set.
 #[derive(Drop)]
 pub(crate) struct UnitProgress {
     pub(crate) unit: u32,
@@ -57,7 +57,7 @@ pub(crate) struct UnitProgress {
     pub(crate) running: Stack<RunningKey>,
     pub(crate) registered: IndexSet<IdText>,
     pub(crate) next: u32,
-    pub(crate) stamp: u64,
+    pub(crate) stamp: Option<u64>,
     pub(crate) own_stamp: Option<u64>,
 }
 
@@ -70,7 +70,7 @@ impl UnitProgress {
             running: Stack::new(alloc),
             registered: IndexSet::new(alloc),
             next: 0,
-            stamp: 0,
+            stamp: None,
             own_stamp: None,
         }
     }
@@ -153,7 +153,7 @@ impl<'a, S: Sink, K: UnitRun> UnitEvents<'a, S, K> {
             running: Stack::new(alloc),
             registered: IndexSet::new(alloc),
             next,
-            stamp: 0,
+            stamp: None,
             own_stamp: None,
         };
         UnitEvents {
@@ -277,8 +277,9 @@ impl<'a, S: Sink, K: UnitRun> UnitEvents<'a, S, K> {
         }
     }
 
-    /// Sets the stamp of the events that a body publishes, until it sets its own.
-    pub fn set_planned_stamp(&mut self, stamp: u64)
+    /// Sets the stamp of the events that a body publishes, until it sets its own: none where a clock
+    /// gives it.
+    pub fn set_planned_stamp(&mut self, stamp: Option<u64>)
         ensures { self.new ≡ record self.old { stamp = stamp; own_stamp = None } }
     {
         self.progress.stamp = stamp;
@@ -288,14 +289,14 @@ impl<'a, S: Sink, K: UnitRun> UnitEvents<'a, S, K> {
     /// Sets the stamp of the events that bodies publish from now on, as the one of the static test
     /// that runs.
     pub fn set_stamp(&mut self, stamp: u64)
-        ensures { self.new ≡ record self.old { stamp = stamp; own_stamp = Some stamp } }
+        ensures { self.new ≡ record self.old { stamp = Some stamp; own_stamp = Some stamp } }
     {
-        self.progress.stamp = stamp;
+        self.progress.stamp = Some(stamp);
         self.progress.own_stamp = Some(stamp);
     }
 
-    /// The stamp of the events that a body publishes.
-    pub fn stamp(&self) -> u64
+    /// The stamp of the events that a body publishes, where no clock gives it.
+    pub fn stamp(&self) -> Option<u64>
         ensures { result ≡ self.now.stamp }
     {
         self.progress.stamp

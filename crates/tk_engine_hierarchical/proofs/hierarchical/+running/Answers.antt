@@ -1,6 +1,5 @@
-use Rattle.std.proofs.Common.{◌-◌, length, ap, ◌∙◌, arith}
+use Rattle.std.proofs.Common.{◌-◌, length, arith}
 use Rattle.tk_engine_hierarchical.specs.steps.StaticSteps.{MayStepAs}
-use Rattle.tk_engine_hierarchical.specs.TreeRuns.{after_publishing, plan_state}
 use Rattle.tk_engine_hierarchical.proofs.Stepped.{others_few, split_others}
 use Rattle.tk_engine_hierarchical.proofs.TreeRuns.{first_ran, may_finish, nothing_ran, ran_node}
 use Rattle.tk_engine_hierarchical.proofs.hierarchical.+running.Goals as goal
@@ -40,9 +39,6 @@ run_started-returns g t c =
     (g.T.Tests.may_run c.args.tests.now) c.args.numbered_node.now.node
     c.args.numbered_node.now.number c.in_ok-key.key _ _
     c.start.new.self c.run_body.new.self.unit c.in_ok-ended.ended
-    c.publish.new.self c.run_all.new.unit _
-    c.in_ok-key.ensures.start c.in_ok-ended.ensures.body
-    (c.in_ok-publish.ensures
-    ∙ ap (λ next. after_publishing c.args.numbered_node.now.node c.in_ok-key.key
-    (plan_state c.run_body.new.self.unit next)) c.run_body.ensures.next) c.in_ok-run_all.ensures
-    c.finish.ensures
+    c.run_body.new.self c.publish.new.self c.run_all.new.unit _
+    c.in_ok-key.ensures.start c.in_ok-ended.ensures.body c.run_body.ensures.next
+    c.in_ok-publish.ensures c.in_ok-run_all.ensures c.finish.ensures

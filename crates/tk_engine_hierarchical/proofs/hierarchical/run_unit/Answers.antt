@@ -1,7 +1,8 @@
 use Rattle.std.proofs.Common.{ap, subst, sym, ◌∙◌}
+use Rattle.std.specs.Prelude.{is_some}
 use Rattle.tk_plan.specs.Trees.{tree_of}
 use Rattle.tk_engine_hierarchical.specs.StaticSteps.{FitsPlan}
-use Rattle.tk_engine_hierarchical.specs.TreeRuns.{PlanState}
+use Rattle.tk_engine_hierarchical.specs.TreeRuns.{PlanState, test_rules}
 use Rattle.tk_engine_hierarchical.proofs.Stepped.{all_found_fit, found_fits, unit_found}
 use Rattle.tk_engine_hierarchical.proofs.TreeRuns.{tree_ran}
 use Rattle.tk_engine_hierarchical.proofs.hierarchical.run_unit.Goals as goal
@@ -39,7 +40,8 @@ returns-clause-tree g c =
     let same = ap (λ p. p.table) c.plan-plan.ensures ∙ ap (λ f. f.table) c.requires.frame in
     rw (sym c.plan-plan.ensures) (
     tree_ran c.run_tree-played.result c.unit_result.result plan g.K.UnitRun.unit.frame.table
-    (g.T.Tests.may_run c.args.tests.now) c.args.unit
+    (test_rules (is_some c.args.clock) (g.T.Tests.may_end c.args.tests.now)
+    (g.T.Tests.may_run c.args.tests.now)) c.args.unit
     (record { tree = tree_of tree.top.now tree.below.now; first = tree.first })
     g.K.UnitRun.unit.start _
     c.begin.result c.run_tree-played.new.unit same c.unit_tree-tree.ensures.piece

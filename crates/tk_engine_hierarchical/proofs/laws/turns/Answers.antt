@@ -1,4 +1,5 @@
-use Rattle.tk_engine_hierarchical.specs.Laws.{test_rules}
+use Rattle.std.specs.Prelude.{is_some}
+use Rattle.tk_engine_hierarchical.specs.TreeRuns.{test_rules}
 use Rattle.tk_engine_unit_events.specs.Shapes.{frame}
 use Rattle.tk_engine_hierarchical.specs.StaticSteps.{FitsPlan}
 use Rattle.tk_engine_hierarchical.proofs.Recorded.{have_turns}
@@ -8,7 +9,8 @@ use Rattle.tk_engine_hierarchical.proofs.laws.turns.Goals as goal
 pub returns : goal.returns
 returns g c =
     let s = c.args.engine.now.shape in
-    let rules = test_rules (g.T.Tests.may_end c.args.engine.now.tests)
+    let rules = test_rules (is_some c.args.engine.now.clock)
+    (g.T.Tests.may_end c.args.engine.now.tests)
     (g.T.Tests.may_run c.args.engine.now.tests) in
     let r = c.args.results.now.recorded in
     have_turns s (FitsPlan s.plan rules.may_end)

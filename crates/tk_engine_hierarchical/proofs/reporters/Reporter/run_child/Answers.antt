@@ -4,11 +4,11 @@ use Rattle.std.specs.Prelude.{IfErr, IfOk, OnErr}
 use Rattle.tk_engine_execute.specs.Engines.{Extends}
 use Rattle.tk_events.specs.declared.kinds.Kind.TheVariants.{Finished}
 use Rattle.tk_engine_unit_events.specs.Endings.{payload_of}
-use Rattle.tk_engine_unit_events.specs.Refusals.{IsChildCause, IsInnermostCause}
-use Rattle.tk_engine_unit_events.specs.UnitSteps.{UnitView, child_request, event}
+use Rattle.tk_engine_unit_events.specs.Refusals.{IsInnermostCause}
+use Rattle.tk_engine_unit_events.specs.UnitSteps.{UnitView, event}
 use Rattle.tk_engine_unit_events.proofs.UnitSteps.{both_err, if_err, on_ok}
 use Rattle.tk_engine_hierarchical.specs.Causes.{first_cause}
-use Rattle.tk_engine_hierarchical.specs.Reporting.{FailsOrDrops, dynamic_start}
+use Rattle.tk_engine_hierarchical.specs.Reporting.{AtStamp, FailsOrDrops}
 use Rattle.tk_engine_hierarchical.proofs.Reported.{ends_child, failed_begun, finish_noted}
 use Rattle.tk_engine_hierarchical.proofs.Reported.{has_run_child, stopped, unfinished}
 use Rattle.tk_engine_hierarchical.proofs.reporters.Reporter.run_child.Goals as goal
@@ -35,12 +35,8 @@ returns-clause-child g c =
     c.run_body-ended.new.self outcome))
     (sym c.in_ok-outcome.ensures.same) c.run_body-ended.ensures.ran in
     on_ok c.note-2.result finished
-    (λ f. (
-      s.0,
-      has_run_child (g.B.Body.may_run c.args.body.now) _ _ _ _
-          (λ n. child_request c.args.child.now s.0 n)
-          c.in_ok-key.key _ _ _ c.stamp-stamp.ensures s.1 c.run_body-ended.ensures.more ran f,
-    ))
+    (λ f. has_run_child (g.B.Body.may_run c.args.body.now) _ _ _ _ c.args.child.now s.0
+    c.in_ok-key.key _ _ c.stamp-stamp.ensures s.1 c.run_body-ended.ensures.more ran f)
 
 pub returns-in_err-key-clause-err : goal.returns-in_err-key-clause-err
 returns-in_err-key-clause-err g c = if_err _ c.from_residual.result
@@ -75,9 +71,7 @@ pub returns-in_err-key-clause-cause : goal.returns-in_err-key-clause-cause
 returns-in_err-key-clause-cause g c =
     let p = err_from_is_err_and c.from_residual.result c.from_residual.ensures.1 in
     rw (p.1, p.2)
-    (inl (subst (λ n. IsChildCause g.C.Run.UnitRun.unit c.args.self.now.events
-    (dynamic_start c.args.child.now n) c.in_err-key.field-0.0)
-    c.stamp-stamp.ensures c.in_err-key.ensures.cause))
+    (inl (c.stamp-stamp.result, c.stamp-stamp.ensures, c.in_err-key.ensures.cause))
 
 pub returns-in_err-outcome-clause-cause : goal.returns-in_err-outcome-clause-cause
 returns-in_err-outcome-clause-cause g c =
@@ -100,10 +94,10 @@ returns-clause-cause g c =
     let s = c.in_ok-key.ensures.started in
     let refused = subst (λ r. OnErr r (c.finish-finished.new.self.events ≡ c.note.new.self.events))
     (sym c.note-2.ensures.same) c.finish-finished.ensures.err in
-    let its = subst (λ r. IfErr r (IsInnermostCause c.note.new.self.events
-    (event Finished c.in_ok-key.key c.note.new.self.events.stamp
-    (payload_of c.in_ok-outcome.outcome)))) (sym c.note-2.ensures.same)
-    c.finish-finished.ensures.cause in
+    let its = subst (λ r. IfErr r (λ why. AtStamp c.note.new.self.events (λ n.
+    IsInnermostCause c.note.new.self.events
+    (event Finished c.in_ok-key.key n (payload_of c.in_ok-outcome.outcome)) why)))
+    (sym c.note-2.ensures.same) c.finish-finished.ensures.cause in
     let ran = subst (λ r. IfOk r
     (λ outcome. g.B.Body.may_run c.args.body.now c.start_child.new.self
     c.run_body-ended.new.self outcome))
@@ -126,4 +120,4 @@ returns-clause-running g c =
     c.note-2.ensures.events c.finish-finished.ensures.ok in
     on_ok c.note-2.result finished
     (λ f. c.run_body-ended.ensures.outer c.in_ok-key.key _ _ c.in_ok-key.ensures.started.1.running
-    f.running)
+    f.2.running)

@@ -15,8 +15,7 @@ returns-clause-child g c =
 pub returns-clause-cause : goal.returns-clause-cause
 returns-clause-cause g c =
     subst (λ s. IfErr c.run_child.result (λ why. IsDynamicCause g.C.Run.UnitRun.unit
-    c.args.self.now.events
-    (dynamic_start (child c.args.dtype s c.args.name.now) c.args.self.now.events.stamp) why
+    c.args.self.now.events s (dynamic_start (child c.args.dtype s c.args.name.now)) why
     ⊎ HasStoppedDynamic (g.B.Body.may_run c.args.body.now) (g.B.Body.may_fail c.args.body.now)
     c.args.self.now.events c.run_child.new.self.events
     (child c.args.dtype s c.args.name.now) why)) c.in_ok-segment.ensures.ok
