@@ -3,3 +3,5 @@
 
 #[cfg(test)]
 mod expectations;
+#[cfg(test)]
+mod failed_runs;

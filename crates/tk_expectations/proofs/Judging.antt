@@ -37,6 +37,7 @@ judged e Answers is_yes text (Err (failures.Unmet u)) a h =
     subst (λ b. Answers b u.explanation.bytes) h.0 (subst (Answers is_yes) (sym h.1) a)
 judged e Answers is_yes text (Err (failures.Condition fault shown)) a h = absurd h
 judged e Answers is_yes text (Err (failures.Word at shown)) a h = absurd h
+judged e Answers is_yes text (Err (failures.Run shown)) a h = absurd h
 judged e Answers is_yes text (Err (failures.Fault fault)) a h = tt
 
 -- what is judged of two conditions is judged of the texts that they spell
@@ -48,6 +49,7 @@ judged_holders e texts w r Answers (Ok next) a h = (h.0, h.1, (w, r, a, h.2))
 judged_holders e texts w r Answers (Err (failures.Unmet u)) a h = (w, r, a, h)
 judged_holders e texts w r Answers (Err (failures.Condition fault shown)) a h = tt
 judged_holders e texts w r Answers (Err (failures.Word at shown)) a h = tt
+judged_holders e texts w r Answers (Err (failures.Run shown)) a h = absurd h
 judged_holders e texts w r Answers (Err (failures.Fault text)) a h = tt
 
 -- an answer or a fault names no text
@@ -57,6 +59,7 @@ asked_refuses texts (Ok next) h = tt
 asked_refuses texts (Err (failures.Unmet u)) h = tt
 asked_refuses texts (Err (failures.Condition fault shown)) h = absurd h
 asked_refuses texts (Err (failures.Word at shown)) h = absurd h
+asked_refuses texts (Err (failures.Run shown)) h = absurd h
 asked_refuses texts (Err (failures.Fault text)) h = tt
 
 -- a word with the blank after it

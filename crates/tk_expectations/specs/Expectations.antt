@@ -30,9 +30,10 @@ texts_of texts = map (λ t. t.now) texts
 abbrev pub asked_of : Expect → Selected
 asked_of e = picked e.selection e.«record».now
 
--- a failure that says what was expected shows the answer, which is a no
+-- a failure that says what was expected shows the answer, which is a no; none is of a run
 abbrev pub IsUnmet : (Bool → List ℕ → Type 0) → Failure → Type 0
 IsUnmet Answers (failures.Unmet unmet) = Answers false unmet.explanation.bytes
+IsUnmet Answers (failures.Run text) = ⊥
 IsUnmet Answers _ = Unit {0}
 
 -- The answer is a yes, and what is expected next is asked of the same events; or it is a no, and
@@ -76,6 +77,7 @@ ComparesReport r expected false text = report_of_record r ≢ expected
 abbrev pub RefusesConditions : List (List ℕ) → Failure → Type 0
 RefusesConditions texts (failures.Condition fault shown) = IsConditionsFault texts fault
 RefusesConditions texts (failures.Word at shown) = ⊥
+RefusesConditions texts (failures.Run text) = ⊥
 RefusesConditions texts _ = Unit {0}
 
 -- a failure that names a word is about one that expects nothing, the first such one
@@ -83,4 +85,5 @@ abbrev pub RefusesWords : List ℕ → Failure → Type 0
 RefusesWords words_text (failures.Condition fault shown) = ⊥
 RefusesWords words_text (failures.Word at shown) =
     (words : List (List ℕ)) × IsSpaced words_text words × IsBadExpectation words at
+RefusesWords words_text (failures.Run text) = ⊥
 RefusesWords words_text _ = Unit {0}

@@ -1,3 +1,5 @@
 pub mod Failures
+pub mod Lists
+pub mod FailedRuns
 pub mod Expectations
 pub mod steps

@@ -43,7 +43,8 @@ impl Unmet {
     }
 }
 
-/// Why a test fails: an expectation is not met or can't be read, or a call answered a fault.
+/// Why a test fails: an expectation is not met or can't be read, a run failed, or a call answered
+/// a fault.
 ///
 /// `?` makes one of any error. A test that returns `Result<(), Failure>` prints its whole text.
 #[derive(Drop)]
@@ -54,6 +55,8 @@ pub enum Failure {
     Condition(ConditionsFault, String),
     /// The word of this number expects nothing of a statistic. Beside it: the word, and how one does.
     Word(usize, String),
+    /// A run failed. Beside it: its fault, and the last events that were recorded until then.
+    Run(String),
     /// What another fault says of itself.
     Fault(InlineText<{ FAULT_TEXT }>),
 }
@@ -73,7 +76,9 @@ impl fmt::Debug for Failure {
                 write_bytes(unmet.explanation(), f)?;
                 f.write_str(unmet.below())
             }
-            Failure::Condition(_, text) | Failure::Word(_, text) => f.write_str(text.as_str()),
+            Failure::Condition(_, text) | Failure::Word(_, text) | Failure::Run(text) => {
+                f.write_str(text.as_str())
+            }
             Failure::Fault(text) => f.write_str(text.as_str()),
         }
     }

@@ -5,6 +5,7 @@
 mod bad_texts;
 mod descriptor_events;
 mod expectations;
+mod failed_runs;
 mod failures;
 mod lists;
 mod report_differences;
@@ -12,3 +13,4 @@ mod uncounted_events;
 
 pub use expectations::Expect;
 pub use failures::{Failure, Unmet};
+pub use lists::MAX_SHOWN_EVENTS;

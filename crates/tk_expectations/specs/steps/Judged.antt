@@ -16,9 +16,10 @@ abbrev pub IsJudgedBy : Expect → Bool → List ℕ → Result Expect Failure �
 IsJudgedBy e is_yes text (Ok next) = (next ≡ e) × (is_yes ≡ true)
 IsJudgedBy e is_yes text (Err failure) = ShowsNo is_yes text failure
 
--- the failure is no answer
+-- the failure is no answer, and of no run
 abbrev pub IsNoAnswer : Failure → Type 0
 IsNoAnswer (failures.Unmet unmet) = ⊥
+IsNoAnswer (failures.Run text) = ⊥
 IsNoAnswer _ = Unit {0}
 
 -- the failure is an answer or a fault, and of no text
