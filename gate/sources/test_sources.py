@@ -16,8 +16,8 @@ LIMITS = Limits(
         *("crates/example_engine/src/case_tests.rt case_engine", "crates/example_engine/src/desk.rt desk_engine"),
         "crates/example_engine/src/evens.rt even_numbers",
     ],
-    fewest_edits=131,
-    fewest_tests=211,
+    fewest_edits=139,
+    fewest_tests=219,
 )
 
 
