@@ -4,6 +4,7 @@ pub use Rattle.testkit_questions.specs.Questions.{AreConditions}
 pub use Rattle.tk_expectations.specs.Expectations.{ComparesReport, IsJudged, OfConditions}
 pub use Rattle.tk_expectations.specs.Expectations.{OfHolders, OfWords, RefusesConditions}
 pub use Rattle.tk_expectations.specs.Expectations.{RefusesWords, asked_of, texts_of}
+pub use Rattle.tk_expectations.specs.FailedRuns.{IsOfRun}
 pub use Rattle.tk_expectations.specs.Failures.{IsFault}
 pub use Rattle.tk_explanations.specs.Collisions.{ExplainsExclusive}
 pub use Rattle.tk_explanations.specs.Explained.{IsExplained}

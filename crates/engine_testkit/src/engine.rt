@@ -6,7 +6,7 @@ pub use tk_engine_events::{
 };
 pub use tk_engine_execute::{
     Engine, FailedRun, OUT_OF_ORDER, Results, RunFault, Sink, SinkFault, TWICE, UnitFault, execute,
-    execute_keeping_record, execute_many,
+    execute_many, execute_with_record,
 };
 pub use tk_engine_hierarchical::{
     Body, Context, EventClock, Hierarchical, Reporter, Tests, run_tests,

@@ -18,8 +18,8 @@ pub mod record;
 pub use engine::{
     Body, BookSeat, Context, Emitter, Engine, FailedRun, Hierarchical, Need, Outcome, Reporter,
     Results, RunFault, Sink, Tests, UnitContext, UnitEngine, UnitFault, UnitTable, Units, emit,
-    execute, execute_keeping_record, file_published, finish, finished, publish_file, register,
-    report, reported, run_tests, skip, skipped, start, started,
+    execute, execute_with_record, file_published, finish, finished, publish_file, register, report,
+    reported, run_tests, skip, skipped, start, started,
 };
 pub use plans::{Bodies, ExecutionMode, Plan, PlanFault, PlanNode, build_plan};
 pub use questions::{

@@ -4,7 +4,7 @@ use std::alloc::Global;
 use std::sync::Wait;
 use std::thread::Threads;
 use tk_engine_execute::{
-    FailedRun, Results, RunFault, UnitFault, execute, execute_keeping_record, execute_many,
+    FailedRun, Results, RunFault, UnitFault, execute, execute_many, execute_with_record,
 };
 use tk_locks::Need;
 use tk_record::Record;
@@ -193,14 +193,14 @@ fn kept(failed: &FailedRun) -> Option<(usize, u64, u64, bool)> {
 }
 
 // Runs these units by this number of workers, and says what is kept where the run fails.
-fn run_keeping_record<R: Threads + Wait + Sync>(
+fn run_with_record<R: Threads + Wait + Sync>(
     rt: &R,
     alloc: Global,
     units: &Units<'_>,
     workers: usize,
 ) -> Option<(usize, u64, u64, bool)> {
     let engine = engine(alloc, units)?;
-    match execute_keeping_record(rt, alloc, &engine, workers, 64) {
+    match execute_with_record(rt, alloc, &engine, workers, 64) {
         Ok(_) => None,
         Err(failed) => kept(&failed),
     }
@@ -318,9 +318,9 @@ fn a_failure_is_handed_on(rt: HostRuntime) {
 fn a_failed_run_keeps_its_record(rt: HostRuntime) {
     let fails = [UnitStep::Start(1), UnitStep::Start(2), UnitStep::Fail(3)];
     let units = Units::beside(2, &fails, &[]);
-    let kept = run_keeping_record(&rt, rt.alloc(), &units, 2);
+    let kept = run_with_record(&rt, rt.alloc(), &units, 2);
     assert!(rt; matches!(kept, Some((2, 1, 2, true))));
-    let refused = run_keeping_record(&rt, rt.alloc(), &units, 0);
+    let refused = run_with_record(&rt, rt.alloc(), &units, 0);
     assert!(rt; refused.is_none());
 }
 

@@ -23,5 +23,5 @@ pub use failed_runs::FailedRun;
 pub use many_runs::execute_many;
 pub use results::Results;
 pub use run_faults::RunFault;
-pub use runs::{execute, execute_keeping_record};
+pub use runs::{execute, execute_with_record};
 pub use sinks::{Sink, SinkFault};

@@ -17,7 +17,7 @@ pub(crate) struct WorkerParts {
 }
 
 impl WorkerParts {
-    /// Makes room for the parts of so many workers, so that no memory is needed when they have
+    /// Makes room for the parts of this number of workers. So no memory is needed when they have
     /// ended.
     pub(crate) fn with_capacity(alloc: Global, workers: usize) -> Result<WorkerParts, AllocError>
         ensures { IfOk result (HasRoomFor workers) }

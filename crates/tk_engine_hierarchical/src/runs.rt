@@ -66,7 +66,7 @@ fn shows_laws<T: Tests + Sync, C: EventClock + Sync>(engine: &Hierarchical<T, C>
 /// - `trees`: each unit ran its tree, and of each static test the body once, as `may_run` says.
 ///
 /// # Errors
-/// Those of [`execute`]. To keep the record of a run that failed, call `execute_keeping_record`.
+/// Those of [`execute`]. To keep the record of a run that failed, call `execute_with_record`.
 pub fn run_tests<R: Threads + Wait + Sync, T: Tests + Sync, C: EventClock + Sync>(
     rt: &R,
     alloc: Global,

@@ -30,8 +30,8 @@ pub record WorkersWereRun (units : RunUnits) (n : ℕ) (old new : Collected) : T
       new.collector.lacks_thread ≡ false
       → AllDone units old.collector.receiver.session new.worker_ends.items
 
--- The threads of the workers 1 to n were joined, and no worker is awaited any more. The ends are what
--- the workers have left, where a thread was started for each there is one of each.
+-- The threads of the workers 1 to n were joined, and no worker is awaited any more. The ends are
+-- what the workers have left; where a thread was started for each, there is one of each.
 pub record IsCollected (units : RunUnits) (n : ℕ) (t : Collected) : Type 0 where
   pub some : 0 < n
   pub workers : t.collector.receiver.workers ≡ n

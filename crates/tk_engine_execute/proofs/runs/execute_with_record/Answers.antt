@@ -2,7 +2,7 @@ use Rattle.std.proofs.Common.{◌≡◌, sym, ◌∙◌}
 use Rattle.tk_engine_execute.specs.Work.{engine_view}
 use Rattle.tk_engine_execute.specs.declared.run_faults.RunFault.TheVariants.{Engine, Workers, Capacity}
 use Rattle.tk_engine_execute.proofs.FailedRuns.{nothing_recorded}
-use Rattle.tk_engine_execute.proofs.runs.execute_keeping_record.Goals as goal
+use Rattle.tk_engine_execute.proofs.runs.execute_with_record.Goals as goal
 
 pub returns-then-workers-eq0-clause-failed : goal.returns-then-workers-eq0-clause-failed
 returns-then-workers-eq0-clause-failed g c =
