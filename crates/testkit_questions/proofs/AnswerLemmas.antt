@@ -17,7 +17,7 @@ use Rattle.tk_record.specs.Statistics.{mismatches, statistics_of}
 use Rattle.tk_record.specs.declared.statistics.Expected.{Expected}
 use Rattle.tk_record.specs.declared.statistics.Mismatch.{Mismatch}
 use Rattle.tk_record.specs.declared.statistics.Statistics.{Statistics}
-use Rattle.tk_record_text.specs.StatisticsText.{statistics_text}
+use Rattle.tk_record.specs.StatisticTexts.{statistics_text}
 use Rattle.testkit_questions.specs.Answers.{IsAnswerTo, events_where, mismatch_line, picked}
 use Rattle.testkit_questions.specs.declared.answers.Answer.{Answer}
 use Rattle.testkit_questions.specs.declared.questions.Question.TheVariants.{Stats}

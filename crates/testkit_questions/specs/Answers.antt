@@ -27,7 +27,7 @@ use Rattle.tk_record.specs.Selections.{
   selects,
 }
 use Rattle.tk_record.specs.Statistics.{statistics_of, mismatches}
-use Rattle.tk_record_text.specs.StatisticsText.{statistics_text}
+use Rattle.tk_record.specs.StatisticTexts.{statistics_text}
 use Rattle.tk_record_text.specs.EventLists.{event_list}
 use Rattle.tk_explanations.specs.Statistics.{mismatch_text}
 use Rattle.tk_query_conditions.specs.declared.conditions.Condition.{Condition}

@@ -26,8 +26,7 @@ use Rattle.tk_record.specs.Selections.{
 use Rattle.tk_record.specs.Statistics.{mismatches, statistics_of}
 use Rattle.tk_record.specs.declared.statistics.Expected.{Expected}
 use Rattle.tk_record.specs.declared.statistics.Mismatch.{Mismatch}
-use Rattle.tk_record.specs.StatisticTexts.{mismatch_words}
-use Rattle.tk_record_text.specs.StatisticsText.{statistics_text}
+use Rattle.tk_record.specs.StatisticTexts.{mismatch_words, statistics_text}
 use Rattle.tk_explanations.specs.Rows.{rows_text}
 use Rattle.tk_explanations.specs.declared.rows.Note.TheVariants.{Nothing}
 use Rattle.tk_explanations.specs.declared.rows.Row.{Row}

@@ -12,7 +12,7 @@ use Rattle.tk_record.specs.declared.statistics.Statistics.{Statistics}
 use Rattle.tk_record.specs.Recorded.{Recorded}
 use Rattle.tk_record.specs.Selections.{Selected, all_of, events_of}
 use Rattle.tk_record.specs.Statistics.{statistics_of}
-use Rattle.tk_record_text.specs.StatisticsText.{statistics_text}
+use Rattle.tk_record.specs.StatisticTexts.{statistics_text}
 use Rattle.tk_record.proofs.PickedEntries.{all_events}
 use Rattle.tk_report_text.specs.Labels.{labels}
 use Rattle.tk_report_text.specs.Reports.{id_lines, id_texts, report_of_record}

@@ -16,7 +16,7 @@ use Rattle.tk_events.specs.declared.statuses.Status.{Status}
 use Rattle.tk_events.specs.declared.statuses.Status.TheVariants as status
 use Rattle.tk_events.specs.Event.{kind_code, status_code}
 use Rattle.tk_events.specs.Fields.{field_text}
-use Rattle.tk_record_text.specs.StatisticsText.{statistics_text}
+use Rattle.tk_record.specs.StatisticTexts.{statistics_text}
 use Rattle.tk_record.specs.declared.statistics.Statistics.{Statistics}
 use Rattle.tk_record.specs.Statistics.{statistics_of}
 use Rattle.tk_record.specs.Entries.{status_number}

@@ -11,7 +11,7 @@ use Rattle.tk_record.specs.Statistics.{statistics_of}
 use Rattle.tk_record_text.specs.Characters.{blank}
 use Rattle.tk_events.specs.Fields.{field_text, line_feed}
 use Rattle.tk_record_text.specs.Spelling.{tail, joined}
-use Rattle.tk_record_text.specs.StatisticsText.{statistics_text}
+use Rattle.tk_record.specs.StatisticTexts.{statistics_text}
 use Rattle.tk_report_text.specs.Labels.{Label, labels}
 
 -- the texts of the ids that have an event, each once, in the order of their bytes
