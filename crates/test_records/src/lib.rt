@@ -26,7 +26,7 @@ mod refusals;
 #[cfg(test)]
 mod shared_pairs;
 #[cfg(test)]
-mod shown_mismatches;
+mod shown_records;
 #[cfg(test)]
 mod std_devices;
 #[cfg(test)]
