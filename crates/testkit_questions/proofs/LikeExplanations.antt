@@ -24,11 +24,9 @@ use Rattle.tk_explanations.specs.Matches.{AreFirstFits, ExplainsExactly, Explain
 use Rattle.tk_explanations.specs.Collisions.{ExplainsExclusive, held_rows, holder_rows, is_held, names_some, collision_rows, writers_among, writers_said}
 use Rattle.testkit_questions.proofs.UniqueReading.{AreAlike}
 use Rattle.testkit_questions.proofs.UniqueReply.{as_many, exact_too, exclusive_too, in_order_too, like_at, loose_too, least_too, prefix, same_fits, same_holds}
+use Rattle.tk_record_text.proofs.AnswerIsUnique.{cons_same}
 
 -- ---- rows
-
-cons_same : {X : Type 0} (x y : X) (xs ys : List X) → x ≡ y → xs ≡ ys → x ∷ xs ≡ y ∷ ys
-cons_same x y xs ys e f = cc
 
 append_same : {X : Type 0} (a b c d : List X) → a ≡ b → c ≡ d → a ++ c ≡ b ++ d
 append_same {X = X} a b c d e f = ap₂ (λ (x y : List X). x ++ y) e f

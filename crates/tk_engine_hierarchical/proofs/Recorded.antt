@@ -37,6 +37,7 @@ use Rattle.tk_engine_unit_events.specs.declared.outcomes.Outcome.{Outcome}
 use Rattle.tk_engine_unit_events.proofs.Played.{any-append, any_kept, covered_by}
 use Rattle.tk_base.proofs.Lists.{get_below}
 use Rattle.std.proofs.lemmas.Bool.{and_parts, or_cases, or_left, or_right}
+use Rattle.tk_plan_laws.proofs.Lists.{zero_or}
 
 -- ---- the events of the workers
 
@@ -110,9 +111,6 @@ abbrev drawn_in : ℕ → List (List ℕ) → ℕ
 drawn_in u [] = 0
 drawn_in u (us ∷ drawn) = times u us + drawn_in u drawn
 
-none_or_some : (n : ℕ) → (n ≡ 0) ⊎ (0 < n)
-none_or_some n = grind (arith, tests)
-
 drew : (u : ℕ) (drawn : List (List ℕ)) → 0 < drawn_in u drawn → (i : ℕ) × (us : List ℕ)
     × (i < length drawn) × (slice_get drawn i ≡ Some us) × (0 < drawn_by u us)
 drew u [] h = absurd (omega (arith, h))
@@ -128,7 +126,7 @@ drew u (us ∷ drawn) h =
       subst (λ n. 0 < n)
           (sym (length-filter (λ y. nat_eq y u) us)) some,
     ))
-    (none_or_some (times u us))
+    (zero_or (times u us))
 
 module _ (may : ℕ → ℕ → ℕ → List Event → Type 0) where
   -- what holds of what each unit emits holds of what a worker emits

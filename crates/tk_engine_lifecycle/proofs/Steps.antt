@@ -291,7 +291,7 @@ finishes f unit w l running e around low u kind =
 
 -- ---- registrations
 
-one_long : (s : SegmentView) → length (s ∷ []) ≡ 1
+pub one_long : (s : SegmentView) → length (s ∷ []) ≡ 1
 one_long s = omega arith
 
 pub parent_is : (id : List SegmentView) (s : SegmentView) → parent_of (id ++ s ∷ []) ≡ id

@@ -38,6 +38,7 @@ use Rattle.tk_engine_execute.proofs.Emitted.{registrations-append}
 use Rattle.tk_engine_scripted.specs.steps.Keys.{key_in, noted, key_found}
 use Rattle.tk_engine_scripted.specs.steps.Plays.{IsPlayed, IsRegistered, IsEmitted, begun, next_key}
 use Rattle.tk_engine_scripted.proofs.RegisteredKeys.{key_in_more, has_its_key, is_found}
+use Rattle.tk_queue_session.proofs.KnownKeys.{desc_in-append}
 
 -- ---- scripts
 
@@ -97,10 +98,6 @@ has_key nodes table known k Start e h = h
 has_key nodes table known k (Report i) e h = h
 has_key nodes table known k (File i) e h = h
 has_key nodes table known k Finish e h = h
-
-desc_in-append : (xs ys : List Entry) (k : ℕ) → desc_in (xs ++ ys) k ≡ option_or (desc_in xs k) (desc_in ys k)
-desc_in-append [] ys k = refl
-desc_in-append (x ∷ xs) ys k = ap (option_or _) (desc_in-append xs ys k) ∙ sym (option_or-assoc _ (desc_in xs k) (desc_in ys k))
 
 -- what has no descriptor after some events had none before
 unused_before : (table : List Descriptor) (w : ℕ) (sent more : List Event) (key : ℕ) → desc (record { table = table; entries = entries_by w (sent ++ more) }) key ≡ None → desc (record { table = table; entries = entries_by w sent }) key ≡ None

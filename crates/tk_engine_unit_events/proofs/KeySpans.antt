@@ -18,6 +18,7 @@ use Rattle.tk_ids.specs.IdText.{IsBelow}
 use Rattle.tk_engine_unit_events.specs.Events.{AreChained, IsNesting}
 use Rattle.tk_engine_unit_events.specs.Nesting.{BelongsTo, EachFinishes, EventsNest, LacksFinish}
 use Rattle.tk_engine_unit_events.specs.Running.{RunningId, keys_of}
+use Rattle.tk_plan.proofs.ListParts.{all_prefix}
 
 -- ---- lists in parts
 
@@ -38,11 +39,6 @@ begins_either (z ∷ a) b (y ∷ c) d e =
     (λ (r : Begins c d a b). inr
     (record { rest = r.rest; is = ap₂ (λ h t. h ∷ t) (head_is e) r.is; more = r.more }))
     (begins_either a b c d (tail_is e))
-
-pub all_front : {A : Type 0} (P : A → Type 0) (a b : List A) → All P (a ++ b) → All P a
-all_front P [] b h = All-nil P
-all_front P (x ∷ a) b h = All-cons P x a (All-head P x (a ++ b) h)
-    (all_front P a b (All-tail P x (a ++ b) h))
 
 pub all_both : {A : Type 0} (P Q : A → Type 0) (xs : List A) → All P xs → All Q xs
     → All (λ x. P x × Q x) xs
@@ -66,7 +62,7 @@ none_after e (y ∷ (z ∷ s)) x during after h = cc
 last_part : (P : Event → Type 0) (e : Event) (rest y after during : List Event) → during ≡ rest ++ y
     → e ∷ [] ≡ y ++ after → All P (rest ++ e ∷ []) → All P during
 last_part P e rest [] after during is more h = subst (All P) (sym (is ∙ append-nil rest))
-    (all_front P rest (e ∷ []) h)
+    (all_prefix P rest (e ∷ []) h)
 last_part P e rest (z ∷ []) after during is more h = subst (All P)
     (sym (is ∙ ap (λ v. rest ++ v ∷ []) (sym (head_is more)))) h
 last_part P e rest (z ∷ (v ∷ y)) after during is more h = cc
@@ -182,7 +178,7 @@ nest_more r s l e running id n a before start during after is kind none =
     (λ (p : Begins x.rest (e ∷ []) during after).
     last_part P e x.rest p.rest after during p.is p.more
     (nest_end r s l e running id n a before start x.rest x.is kind
-    (all_front (λ y. y.kind ≡ Finished → y.key ≢ start.key) x.rest p.rest
+    (all_prefix (λ y. y.kind ≡ Finished → y.key ≢ start.key) x.rest p.rest
     (subst (LacksFinish start.key) p.is none))))
     (begins_either during after x.rest (e ∷ []) x.more))
     (λ (x : InSecond before start (during ++ after) l (e ∷ [])). subst (All P)
@@ -201,7 +197,7 @@ unfinished_more r l e old new n keeps own before start after is kind none =
     ⊎_elim
     (λ (x : InFirst before start after l (e ∷ [])).
     let lacks : All P (x.rest ++ e ∷ []) = subst (All P) x.more none in
-    keeps start.key (n.unfinished before start x.rest x.is kind (all_front P x.rest (e ∷ []) lacks))
+    keeps start.key (n.unfinished before start x.rest x.is kind (all_prefix P x.rest (e ∷ []) lacks))
     (all_at P x.rest e [] lacks))
     (λ (x : InSecond before start after l (e ∷ [])).
     let same = only_one e x.start start after x.more in
@@ -292,7 +288,7 @@ nest-append r a b first ends second before start during after is kind none =
     (x.is ∙ ap (λ y. before ++ start ∷ y) p.is) kind none)
     (λ (p : Begins x.rest b during after).
     absurd (ends before start x.rest x.is kind
-    (all_front (λ y. y.kind ≡ Finished → y.key ≢ start.key) x.rest p.rest
+    (all_prefix (λ y. y.kind ≡ Finished → y.key ≢ start.key) x.rest p.rest
     (subst (LacksFinish start.key) p.is none))))
     (begins_either during after x.rest b x.more))
     (λ (x : InSecond before start (during ++ after) a b). second x.start start during after x.more

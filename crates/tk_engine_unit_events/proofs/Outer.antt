@@ -27,6 +27,7 @@ use Rattle.tk_engine_unit_events.specs.Standing.{BegunUnit, StandsAt}
 use Rattle.tk_engine_unit_events.specs.declared.unit_events.UnitProgress.{UnitProgress}
 use Rattle.tk_engine_unit_events.proofs.KeySpans.{all_both, below_below, one_of}
 use Rattle.tk_engine_unit_events.proofs.UnitStates.{cancel}
+use Rattle.tk_plan.proofs.ListParts.{all_back}
 
 -- ---- ids
 
@@ -205,10 +206,6 @@ later_ids f w a l key id h =
     subst (λ x. HasId (record { table = f.table; entries = x }) key id) (sym more)
     (later_id f.table (entries_by 0 f.before ++ entries_by w a) (entries_by w l) key id h)
 
-back_part : {A : Type 0} (P : A → Type 0) (a b : List A) → All P (a ++ b) → All P b
-back_part P [] b h = h
-back_part P (x ∷ a) b h = back_part P a b (All-tail P x (a ++ b) h)
-
 not_whole : (ks : List Kind) → ks ≡ Started ∷ [] → IsWhole ks → ⊥
 not_whole ks e w = let bad : IsWhole (Started ∷ []) = subst IsWhole e w in bad
 
@@ -266,7 +263,7 @@ same_outer f unit start a b x y xs ys p q m n i j more same =
     let split : eb ≡ s.before ++ s.start ∷ ((s.after ++ l) ++ [])
     = longer ∙ ap (λ es. es ++ l) s.is ∙ append_assoc s.before (s.start ∷ s.after) l
     ∙ ap (λ es. s.before ++ s.start ∷ es) (sym (append-nil (s.after ++ l))) in
-    let belong = back_part (BelongsTo r s.start.key) s.after l
+    let belong = all_back (BelongsTo r s.start.key) s.after l
     (j.nesting.nest s.before s.start (s.after ++ l) [] split s.kind
     (subst (λ k. LacksFinish k (s.after ++ l)) (sym s.its) lacks)) in
     let belongs : All (BelongsTo r x.key) l = subst (λ k. All (BelongsTo r k) l) s.its belong in

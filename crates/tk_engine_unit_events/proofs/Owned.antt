@@ -10,7 +10,7 @@ use Rattle.tk_ids.specs.IdText.{SegmentView, parent_of}
 use Rattle.tk_ids.specs.declared.descriptors.Descriptor.{Descriptor}
 use Rattle.tk_ids.specs.Table.{AreDifferent, HasId as TableHasId, ids_of}
 use Rattle.tk_engine_unit_events.specs.Owners.{key_of, same_id, owner_at, owner_of, owner_within}
-use Rattle.tk_engine_lifecycle.proofs.Steps.{parent_is}
+use Rattle.tk_engine_lifecycle.proofs.Steps.{one_long, parent_is}
 
 both_true : (a b c : Bool) → a ≡ true → b ≡ true → c ≡ true → (a && b && c) ≡ true
 both_true true true true p q r = refl
@@ -88,16 +88,13 @@ owner_static table owners none k id different at =
     ap (λ o. owner_at owners none o (owner_within table owners none (length id) (parent_of id)))
     (key_found table k id (λ j h. different j k id h at) at)
 
-one_more : (s : SegmentView) → length (s ∷ []) ≡ 1
-one_more s = omega arith
-
 -- an id that is not static belongs to the unit of the id above it
 pub owner_child : (table : List Descriptor) (owners : List ℕ) (none : ℕ) (id : List SegmentView)
     (s : SegmentView) → ¬ TableHasId table (id ++ s ∷ [])
     → owner_of table owners none (id ++ s ∷ []) ≡ owner_of table owners none id
 owner_child table owners none id s n =
     let long : length (id ++ s ∷ []) ≡ suc (length id) = omega
-    (arith, length-append id (s ∷ []), one_more s) in
+    (arith, length-append id (s ∷ []), one_long s) in
     ap (λ o. owner_at owners none o
     (owner_within table owners none (length (id ++ s ∷ [])) (parent_of (id ++ s ∷ []))))
     (no_key table (id ++ s ∷ []) n)

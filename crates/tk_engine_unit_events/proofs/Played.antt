@@ -28,6 +28,7 @@ use Rattle.tk_engine_unit_events.specs.Covered.{IsCovered, IsKeyBelow}
 use Rattle.tk_ids.specs.IdText.{IsBelow}
 use Rattle.tk_engine_unit_events.specs.UnitSteps.{publishes}
 use Rattle.tk_engine_unit_events.specs.Units.{StepsAs, HasPlayed}
+use Rattle.tk_query_lifecycle.proofs.IdMapLemmas.{at_id}
 
 or_assoc : (a b c : Bool) → (a || (b || c)) ≡ ((a || b) || c)
 or_assoc true b c = refl
@@ -207,12 +208,6 @@ module _ (table : List Descriptor) (may_step : Event → Type 0) (first : ℕ)
 
 -- ---- ids below one another
 
-id_of : (table : List Descriptor) (k : ℕ) (d : Descriptor) → slice_get table k ≡ Some d
-    → slice_get (ids_of table) k ≡ Some d.id
-id_of [] k d e = cc
-id_of (x ∷ xs) zero d e = let same : x ≡ d = cc in ap (λ (y : Descriptor). Some y.id) same
-id_of (x ∷ xs) (suc k) d e = id_of xs k d e
-
 -- the keys below an id, and one more
 pub keys_below_more : (table : List Descriptor) (id : List SegmentView) (key other : ℕ)
     (d : Descriptor)
@@ -222,7 +217,7 @@ pub keys_below_more : (table : List Descriptor) (id : List SegmentView) (key oth
 keys_below_more table id key other d each is below k a b =
     ⊎_elim
     (λ low. each k a low)
-    (λ here. subst (IsKeyBelow table id) (sym here) (d.id, id_of table other d is, below))
+    (λ here. subst (IsKeyBelow table id) (sym here) (d.id, at_id table other d is, below))
     (below_or_here k other b)
 
 -- a key whose id doesn't stand below this one
@@ -230,7 +225,7 @@ pub not_below : (table : List Descriptor) (id : List SegmentView) (key : ℕ) (d
     → slice_get table key ≡ Some d → ¬ IsBelow id d.id
     → ¬ IsKeyBelow table id key
 not_below table id key d is other k = other
-    (subst (IsBelow id) (same_Some _ _ (sym k.1 ∙ id_of table key d is)) k.2)
+    (subst (IsBelow id) (same_Some _ _ (sym k.1 ∙ at_id table key d is)) k.2)
 
 no_id : (table : List Descriptor) (key : ℕ) (id : List SegmentView) → slice_get table key ≡ None
     → slice_get (ids_of table) key ≡ Some id → ⊥

@@ -25,7 +25,8 @@ use Rattle.tk_engine_unit_events.specs.Units.{UnitKeys}
 use Rattle.tk_base.proofs.Lists.{get_below}
 use Rattle.tk_engine_unit_events.proofs.Owned.{owner_static}
 use Rattle.tk_engine_unit_events.proofs.UnitsOfKeys.{unit_below}
-use Rattle.tk_engine_unit_events.proofs.UnitStates.{described_here, described_id}
+use Rattle.tk_engine_unit_events.proofs.UnitStates.{described_id}
+use Rattle.tk_query_lifecycle.proofs.IdMapLemmas.{at_id}
 
 -- a number of a list, or else the one past its end
 either : (xs : List ℕ) (i none : ℕ) → ((x : ℕ) × (slice_get xs i ≡ Some x) × (get_or xs i none ≡ x))
@@ -70,7 +71,7 @@ keeps_around s planned numbers different owners places emits keeps =
             described_id (run_alone f 0 []) e.key d.0 d.1,
             subst (λ n. f.units ≤ n)
                 (sym (owner_static f.table s.owners f.units e.key d.0.id different
-                (described_here f.table e.key d.0 d.1))) (common_owner s e.key owners places h.0),
+                (at_id f.table e.key d.0 d.1))) (common_owner s e.key owners places h.0),
           ))
           (f.before ++ f.after) each;
     }

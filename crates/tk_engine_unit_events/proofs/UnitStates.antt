@@ -50,6 +50,7 @@ use Rattle.tk_engine_unit_events.proofs.Emitted.{emitted_all, emitted_report}
 use Rattle.tk_engine_unit_events.proofs.Emitted.{emitted_skip, emitted_start, emitting_later}
 use Rattle.tk_engine_unit_events.proofs.Emitted.{emitting_none}
 use Rattle.tk_engine_unit_events.proofs.Emitted.{sender_later}
+use Rattle.tk_query_lifecycle.proofs.IdMapLemmas.{at_id}
 
 -- what holds of a sink before and after an event holds of it, whatever emitting answered
 pub after_emit : {F : Type 0} (old now new : SenderView) (r : Result (Unit {0}) F)
@@ -233,12 +234,6 @@ pub described_id : (r : Recorded) (k : ℕ) (d : Descriptor) → slice_get r.tab
     → HasId r k d.id
 described_id r k d e = record { descriptor = d; described = from_table r k d e; id_is = refl }
 
-pub described_here : (table : List Descriptor) (k : ℕ) (d : Descriptor) → slice_get table k ≡ Some d
-    → slice_get (ids_of table) k ≡ Some d.id
-described_here [] k d e = cc
-described_here (x ∷ xs) zero d e = ap (λ (y : Descriptor). Some y.id) (same_Some _ _ e)
-described_here (x ∷ xs) (suc k) d e = described_here xs k d e
-
 -- a static key that may start may have its first event
 may_begin : (f : Frame) (unit w : ℕ) (l : List Event) (running : List ℕ) (key : ℕ)
     → MayStart f unit running key → MayBegin (state f unit w l running) key
@@ -296,7 +291,7 @@ ran_start f unit start now running registered next key id e r m low at kind same
     (subst (MayBegin (state f unit start.worker i.events (keys_of running))) (sym same) b)) in
     let its : HasId (so_far f w l) key id = static_id (so_far f w l) key id at in
     let own : m.descriptor.id ≡ id = same_Some _ _
-    (sym (described_here f.table key m.descriptor m.described) ∙ at) in
+    (sym (at_id f.table key m.descriptor m.described) ∙ at) in
     let next_is : IsNext running id = next_static f w l running id r.nesting.ids
     (subst (HasInnermostParent f (keys_of running)) own m.innermost) in
     record {
@@ -422,7 +417,7 @@ may_start s unit key running d different is owner parent innermost = record {
   descriptor = d;
   described = is;
   belongs = owner_static s.plan.table s.owners (frame s).units key d.id different
-      (described_here s.plan.table key d is) ∙ owner;
+      (at_id s.plan.table key d is) ∙ owner;
   parent = parent;
   innermost = innermost;
 }
@@ -484,7 +479,7 @@ may_here s f u unit key running a b m =
 pub static_is : (f : Frame) (unit key : ℕ) (running : List ℕ) → MayStart f unit running key
     → slice_get (ids_of f.table) key ≡ Some (id_at f.table key)
 static_is f unit key running m =
-    let is = described_here f.table key m.descriptor m.described in
+    let is = at_id f.table key m.descriptor m.described in
     is ∙ ap (λ i. Some i) (sym (ap (λ o. unwrap_or o []) is))
 
 -- ---- a unit that begins, and that ends
@@ -514,7 +509,7 @@ pub ran_nothing : (f : Frame) (unit : ℕ) (start : SenderView) (running : List 
 ran_nothing f unit start running registered next none around low table =
     let j = emitting_none f unit start (is_registered registered) next around low table
     (λ key id h. let d = static_first f start.worker around key id h in
-    (key, described_here f.table key d.0 d.1 ∙ ap (λ i. Some i) d.2))
+    (key, at_id f.table key d.0 d.1 ∙ ap (λ i. Some i) d.2))
     (λ key id h. let d = static_first f start.worker around key id h in
     record {
       descriptor = d.0;

@@ -13,17 +13,9 @@ use Rattle.tk_plan.specs.Trees.{IsForest, Tree, forest, number_of, tree_of}
 use Rattle.tk_plan.specs.declared.trees.nodes.NumberedNode.{NumberedNode}
 use Rattle.tk_plan_laws.specs.Spines.{ArePlaced, IsOfUnit, count_static, end_of}
 use Rattle.tk_engine_unit_events.specs.Owners.{AreOwners}
+use Rattle.tk_plan_laws.proofs.SpinePlaces.{count-append}
 
 -- ---- counting
-
-count-append : (xs ys : List NumberedNode)
-    → count_static (xs ++ ys) ≡ count_static xs + count_static ys
-count-append [] ys = omega arith
-count-append (p ∷ xs) ys = let h = count-append xs ys in
-    elim p.node.is_static as
-    (λ b. length (if b then p.node ∷ of_kind true (xs ++ ys) else of_kind true (xs ++ ys)) ≡
-    length (if b then p.node ∷ of_kind true xs else of_kind true xs) + count_static ys)
-    [ true ↦ omega (arith, h) | false ↦ h ]
 
 least_more : (a b most : ℕ) → min (min a most + b) most ≡ min (a + b) most
 least_more a b most = omega arith

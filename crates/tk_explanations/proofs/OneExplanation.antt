@@ -9,7 +9,7 @@ use Rattle.tk_record.specs.Selections.{Selected}
 use Rattle.tk_record.specs.declared.statistics.Expected.{Expected}
 use Rattle.tk_query_lifecycle.specs.LifecycleTexts.{lifecycle_text}
 use Rattle.tk_query_lifecycle.specs.declared.lifecycle_rules.Lifecycle.{Lifecycle}
-use Rattle.tk_query_lifecycle.proofs.LifecycleIsUnique.{lifecycle_is_unique}
+use Rattle.tk_query_lifecycle.proofs.LifecycleIsUnique.{between, lifecycle_is_unique}
 use Rattle.tk_query_conditions.specs.CondOf.{cond_of}
 use Rattle.tk_query_conditions.specs.declared.conditions.Condition.{Condition}
 use Rattle.tk_query.specs.declared.answers.Exact.{Exact}
@@ -29,7 +29,7 @@ use Rattle.tk_query.specs.Asked.{fits}
 use Rattle.tk_query.specs.ExecutionSteps.{step_at}
 use Rattle.tk_query.specs.InOrder.{IsLeastInTurn, IsNextFit}
 use Rattle.tk_query.specs.Laws.{AreAlike}
-use Rattle.tk_query.proofs.AnswerIsUnique.{one_exact, one_exclusive, one_in_order, one_list, one_loose, same_number, same_positions}
+use Rattle.tk_query.proofs.AnswerIsUnique.{one_exact, one_exclusive, one_in_order, one_list, one_loose, same_positions}
 use Rattle.tk_query.proofs.AnswerIsUnique.{as_many}
 use Rattle.tk_query.proofs.ExclusionLemmas.{one_span}
 use Rattle.tk_query_nearest.specs.Nearness.{IsNearest}
@@ -68,7 +68,7 @@ one_exactly asked cs = one_text (IsExactExplanation asked cs) asked.recorded (ex
 -- ---- loosely
 
 one_fit : (asked : Selected) (c : Condition) (p q : ℕ) → IsNextFit (fits asked) c 0 p → IsNextFit (fits asked) c 0 q → p ≡ q
-one_fit asked c p q a b = same_number p q
+one_fit asked c p q a b = between p q
     (λ lt. true≢false (sym a.fit ∙ b.first p (omega arith) lt))
     (λ lt. true≢false (sym b.fit ∙ a.first q (omega arith) lt))
 
@@ -112,7 +112,7 @@ one_last : (asked : Selected) (c : Condition) (o u : Option ℕ) → IsLastFit a
 one_last asked c None None a b = refl
 one_last asked c None (Some q) a b = absurd (true≢false (sym b.0 ∙ a q (omega arith)))
 one_last asked c (Some p) None a b = absurd (true≢false (sym a.0 ∙ b p (omega arith)))
-one_last asked c (Some p) (Some q) a b = ap (λ (n : ℕ). Some n) (same_number p q
+one_last asked c (Some p) (Some q) a b = ap (λ (n : ℕ). Some n) (between p q
     (λ lt. true≢false (sym b.0 ∙ a.1 q (omega arith)))
     (λ lt. true≢false (sym a.0 ∙ b.1 p (omega arith))))
 

@@ -17,15 +17,15 @@ use Rattle.tk_ids.specs.steps.Locks.{added}
 abbrev order : List ℕ → List ℕ → Ordering
 order x y = slice_cmp nat_cmp x y
 
-less_is : (r : Ordering) → is_lt r ≡ true → r ≡ Less
+pub less_is : (r : Ordering) → is_lt r ≡ true → r ≡ Less
 less_is Less h = refl
 less_is Equal h = absurd (false≢true h)
 less_is Greater h = absurd (false≢true h)
 
-before_is : (x y : List ℕ) → is_before x y ≡ true → order x y ≡ Less
+pub before_is : (x y : List ℕ) → is_before x y ≡ true → order x y ≡ Less
 before_is x y h = less_is (order x y) h
 
-is_before_less : (x y : List ℕ) → order x y ≡ Less → is_before x y ≡ true
+pub is_before_less : (x y : List ℕ) → order x y ≡ Less → is_before x y ≡ true
 is_before_less x y h = ap is_lt h
 
 -- of two texts that differ, where the first doesn't come before the second, the second does
@@ -54,7 +54,7 @@ parted (l ∷ ls) name s zero (suc j) d a b h =
 parted (l ∷ ls) name s (suc i) zero d a b h = absurd (omega arith)
 parted (l ∷ ls) name s (suc i) (suc j) d a b h = parted ls name s.1 i j d (omega (arith, a)) (omega (arith, b)) h
 
-all_less : (x y : List ℕ) (ls : List (List ℕ)) → order x y ≡ Less → AllByRecursion (λ z. order y z ≡ Less) ls → AllByRecursion (λ z. order x z ≡ Less) ls
+pub all_less : (x y : List ℕ) (ls : List (List ℕ)) → order x y ≡ Less → AllByRecursion (λ z. order y z ≡ Less) ls → AllByRecursion (λ z. order x z ≡ Less) ls
 all_less x y [] h all = tt
 all_less x y (z ∷ ls) h all = (nat_list_cmp_total.trans x y z h all.0, all_less x y ls h all.1)
 
@@ -80,7 +80,7 @@ pub are_added : (ls : List Lock) (l : Lock) → AreLocks ls → 0 < length l.nam
 are_added ls l are named = record { sorted = sorted_added ls l are.sorted; named = all_added (λ name. 0 < length name) ls l are.named named }
 
 -- no lock has a name before all of theirs
-none_before : (ls : List Lock) (name : List ℕ) → AllByRecursion (λ y. order name y ≡ Less) (lock_names ls) → mode_of ls name ≡ None
+pub none_before : (ls : List Lock) (name : List ℕ) → AllByRecursion (λ y. order name y ≡ Less) (lock_names ls) → mode_of ls name ≡ None
 none_before [] name all = refl
 none_before (l ∷ ls) name all =
     cond_both (bytes_eq l.name name) _ _ (λ x. x ≡ None)

@@ -8,8 +8,8 @@ use Rattle.std.proofs.lemmas.Slice.{drop-append-drop}
 use Rattle.std.proofs.lemmas.List.Sums.{sum_by-cons, count_by-le-length}
 use Rattle.std.proofs.lemmas.Bool.{cases_lt}
 use Rattle.tk_lanes.specs.Bits.{has_bit, first_bits, set_bits, words_for, HoldsFlags, IsClearFrom}
-use Rattle.tk_lanes.proofs.Words.{no_bit_past}
 use Rattle.tk_lanes.proofs.Views.{first_bits_held, set_bits_held}
+use Rattle.tk_lanes.proofs.Writes.{past_bit}
 
 -- word k holds the 64 flags from the block k on
 pub block_held : (flags : List Bool) (words : List ℕ) (k one : ℕ) → HoldsFlags flags words → 64 * k < length flags → one ≡ 1 → HoldsFlags (take 64 (drop (64 * k) flags)) (take one (drop k words))
@@ -35,7 +35,7 @@ block_held flags words k one holds lt is =
           (λ (past : 64 ≤ i).
           let out : length word ≤ i / 64 = omega (arith, long_word) in
           let beyond : length part ≤ i = omega (arith, long_part) in
-          no_bit_past word i out ∙ sym (get_or_past part i false beyond))
+          past_bit word i out ∙ sym (get_or_past part i false beyond))
           (cases_lt i 64);
     }
 

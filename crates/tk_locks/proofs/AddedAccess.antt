@@ -8,7 +8,7 @@ use Rattle.std.proofs.lemmas.Bool.{eqb-true, eqb-false}
 use Rattle.std.proofs.lemmas.Nat.Bits.{bit_at_or, bit_at-zero, bit_at-pow_same, bit_at-pow_other}
 use Rattle.tk_locks.specs.Needs.{nothing, reads, writes, access_of, stronger}
 
-larger : (r : ℕ) → max (suc r) 1 ≡ suc r
+pub larger : (r : ℕ) → max (suc r) 1 ≡ suc r
 larger r = omega arith
 
 read_added : (r w : ℕ) → access_of (max r 1) w ≡ stronger (access_of r w) reads
@@ -23,13 +23,13 @@ write_added (suc r) zero = refl
 write_added zero (suc w) = ap (access_of 0) (larger w)
 write_added (suc r) (suc w) = ap (access_of (suc r)) (larger w)
 
-bit_same : (m k : ℕ) → bit_at (bit_or m (2 ^ k)) k ≡ max (bit_at m k) 1
+pub bit_same : (m k : ℕ) → bit_at (bit_or m (2 ^ k)) k ≡ max (bit_at m k) 1
 bit_same m k = bit_at_or m (2 ^ k) k ∙ ap (λ b. max (bit_at m k) b) (bit_at-pow_same k)
 
-bit_other : (m k i : ℕ) → i ≢ k → bit_at (bit_or m (2 ^ k)) i ≡ bit_at m i
+pub bit_other : (m k i : ℕ) → i ≢ k → bit_at (bit_or m (2 ^ k)) i ≡ bit_at m i
 bit_other m k i h = bit_at_or m (2 ^ k) i ∙ ap (λ b. max (bit_at m i) b) (bit_at-pow_other k i h) ∙ omega arith
 
-one_bit : (k : ℕ) → k < 16 → 1 * 2 ^ k % 65536 ≡ 2 ^ k
+pub one_bit : (k : ℕ) → k < 16 → 1 * 2 ^ k % 65536 ≡ 2 ^ k
 one_bit k h = let small : 2 ^ k < 2 ^ 16 = pow-lt h in ap (λ b. b % 65536) (omega arith) ∙ mod-eq_of_lt small
 
 read_by : (rs ws k i : ℕ) (b : Bool) → eqb k i ≡ b → access_of (bit_at (bit_or rs (2 ^ k)) i) (bit_at ws i) ≡ cond b (stronger (access_of (bit_at rs i) (bit_at ws i)) reads) (access_of (bit_at rs i) (bit_at ws i))

@@ -10,6 +10,8 @@ use Rattle.std.proofs.lemmas.Slice.Eq.{bytes_eq-Decides}
 use Rattle.std.proofs.lemmas.Map.Text.{is_eq-slice_cmp}
 use Rattle.tk_ids.specs.declared.locks.Lock.{Lock}
 use Rattle.tk_ids.specs.Locks.{lock_names, mode_of}
+use Rattle.tk_ids.proofs.LockLemmas.{all_less, none_before}
+use Rattle.tk_events.proofs.KindLemmas.{same_bytes}
 
 abbrev pub order : List ℕ → List ℕ → Ordering
 order x y = slice_cmp nat_cmp x y
@@ -17,12 +19,9 @@ order x y = slice_cmp nat_cmp x y
 is_itself : (x : List ℕ) → bytes_eq x x ≡ true
 is_itself x = (bytes_eq-Decides x x).1 refl
 
-pub same_name : (x y : List ℕ) → bytes_eq x y ≡ true → x ≡ y
-same_name x y e = (bytes_eq-Decides x y).0 e
-
 -- texts that are equal in the order are the same
 pub equal_is : (x y : List ℕ) → order x y ≡ Equal → x ≡ y
-equal_is x y e = same_name x y (sym (is_eq-slice_cmp x y) ∙ ap is_eq e)
+equal_is x y e = same_bytes x y (sym (is_eq-slice_cmp x y) ∙ ap is_eq e)
 
 -- what comes before another differs from it
 pub less_differs : (x y : List ℕ) → order x y ≡ Less → bytes_eq y x ≡ false
@@ -30,15 +29,6 @@ less_differs x y e = sym (is_eq-slice_cmp y x) ∙ ap is_eq (nat_list_cmp_total.
 
 pub greater_is : (x y : List ℕ) → order x y ≡ Greater → order y x ≡ Less
 greater_is x y e = nat_list_cmp_total.antisymm y x ∙ ap ordering_reverse e
-
-pub all_after : (x y : List ℕ) (ks : List (List ℕ)) → order x y ≡ Less → AllByRecursion (λ z. order y z ≡ Less) ks → AllByRecursion (λ z. order x z ≡ Less) ks
-all_after x y [] h all = tt
-all_after x y (z ∷ ks) h all = (nat_list_cmp_total.trans x y z h all.0, all_after x y ks h all.1)
-
--- a name before all others has no lock among theirs
-none_of : (ls : List Lock) (name : List ℕ) → AllByRecursion (λ y. order name y ≡ Less) (lock_names ls) → mode_of ls name ≡ None
-none_of [] name all = refl
-none_of (l ∷ ls) name all = rw (less_differs name l.name all.0) (none_of ls name all.1)
 
 own_mode : (l : Lock) (ls : List Lock) → mode_of (l ∷ ls) l.name ≡ Some l.mode
 own_mode l ls = rw (is_itself l.name) refl
@@ -51,17 +41,17 @@ same_locks (l ∷ a) [] s t h = let e = sym (h l.name) ∙ own_mode l a in cc
 same_locks (l ∷ a) (m ∷ b) s t h = by (λ e. same_locks a b s.1 t.1 e) (order l.name m.name) refl
   where
     none_first : order l.name m.name ≡ Less → mode_of (m ∷ b) l.name ≡ None
-    none_first e = none_of (m ∷ b) l.name (e, all_after l.name m.name (lock_names b) e t.0)
+    none_first e = none_before (m ∷ b) l.name (e, all_less l.name m.name (lock_names b) e t.0)
 
     none_second : order m.name l.name ≡ Less → mode_of (l ∷ a) m.name ≡ None
-    none_second e = none_of (l ∷ a) m.name (e, all_after m.name l.name (lock_names a) e s.0)
+    none_second e = none_before (l ∷ a) m.name (e, all_less m.name l.name (lock_names a) e s.0)
 
     tail : l.name ≡ m.name → (name : List ℕ) → (b' : Bool) → bytes_eq l.name name ≡ b' → mode_of a name ≡ mode_of b name
     tail is name true e =
-        let first : l.name ≡ name = same_name l.name name e in
+        let first : l.name ≡ name = same_bytes l.name name e in
         let second : m.name ≡ name = sym is ∙ first in
-        none_of a name (subst (λ n. AllByRecursion (λ y. order n y ≡ Less) (lock_names a)) first s.0)
-        ∙ sym (none_of b name (subst (λ n. AllByRecursion (λ y. order n y ≡ Less) (lock_names b)) second t.0))
+        none_before a name (subst (λ n. AllByRecursion (λ y. order n y ≡ Less) (lock_names a)) first s.0)
+        ∙ sym (none_before b name (subst (λ n. AllByRecursion (λ y. order n y ≡ Less) (lock_names b)) second t.0))
     tail is name false e =
         let other : bytes_eq m.name name ≡ false = ap (λ n. bytes_eq n name) (sym is) ∙ e in
         sym (ap (λ t. cond t (Some l.mode) (mode_of a name)) e) ∙ h name ∙ ap (λ t. cond t (Some m.mode) (mode_of b name)) other

@@ -17,7 +17,9 @@ use Rattle.tk_ids.specs.declared.locks.LockMode.TheVariants.{Read, ReadWrite}
 use Rattle.tk_plan.specs.declared.trees.nodes.Node.{Node}
 use Rattle.tk_ids.specs.Locks.{AreLocks, lock_names, mode_of, mode_with, strengthened}
 use Rattle.tk_plan.specs.DeclaredLocks.{has_name, is_for_writing, isolation, asked, is_written, strongest, with_name, names_of, by_name, declared_locks}
-use Rattle.tk_plan.proofs.LockOrder.{order, equal_is, greater_is, all_after, same_name, same_locks}
+use Rattle.tk_plan.proofs.LockOrder.{order, equal_is, greater_is, same_locks}
+use Rattle.tk_ids.proofs.LockLemmas.{all_less}
+use Rattle.tk_events.proofs.KindLemmas.{same_bytes}
 
 -- ---- names in order, with one more
 
@@ -39,7 +41,7 @@ sorted_inserted [] k s = (tt, tt)
 sorted_inserted (x ∷ xs) k s = by (sorted_inserted xs k s.1) (order k x) refl
   where
     by : IsStrictlySortedBy (slice_cmp nat_cmp) (insert xs k) → (o : Ordering) → order k x ≡ o → IsStrictlySortedBy (slice_cmp nat_cmp) (match_ordering o (k ∷ x ∷ xs) (x ∷ xs) (x ∷ insert xs k))
-    by rest Less e = ((e, all_after k x xs e s.0), s)
+    by rest Less e = ((e, all_less k x xs e s.0), s)
     by rest Equal e = s
     by rest Greater e = (all_inserted (λ y. order x y ≡ Less) xs k s.0 (greater_is k x e), rest)
 
@@ -97,7 +99,7 @@ mode_mapped ls name (k ∷ ks) = by (bytes_eq k name) refl (mode_mapped ls name 
   where
     by : (b : Bool) → bytes_eq k name ≡ b → mode_of (map (strongest ls) ks) name ≡ cond (stands name ks) (Some (strongest ls name).mode) None
         → cond b (Some (strongest ls k).mode) (mode_of (map (strongest ls) ks) name) ≡ cond (b || stands name ks) (Some (strongest ls name).mode) None
-    by true e rest = ap (λ n. Some (strongest ls n).mode) (same_name k name e)
+    by true e rest = ap (λ n. Some (strongest ls n).mode) (same_bytes k name e)
     by false e rest = rest
 
 pub mode_by_name : (ls : List Lock) (name : List ℕ) → mode_of (by_name ls) name ≡ asked_mode ls name

@@ -12,14 +12,12 @@ use Rattle.tk_locks.proofs.LaneWords.{packed-same}
 use Rattle.tk_plan.specs.declared.trees.nodes.NumberedNode.{NumberedNode}
 use Rattle.tk_plan.specs.Planned.{IsNeedOf, need_word, unit_asks}
 use Rattle.tk_plan.specs.LockNeeds.{over, at_resource}
+use Rattle.tk_locks.proofs.AddedAccess.{bit_other, bit_same, larger, one_bit}
 
 pub over-nothing : (a : Access) → over a nothing ≡ a
 over-nothing nothing = refl
 over-nothing reads = refl
 over-nothing writes = refl
-
-larger : (r : ℕ) → max (suc r) 1 ≡ suc r
-larger r = omega arith
 
 read_marked : (r w : ℕ) → access_of (max r 1) w ≡ over (access_of r w) reads
 read_marked zero zero = refl
@@ -32,17 +30,6 @@ write_marked zero zero = refl
 write_marked (suc r) zero = refl
 write_marked zero (suc w) = ap (access_of 0) (larger w)
 write_marked (suc r) (suc w) = ap (access_of (suc r)) (larger w)
-
-bit_same : (m k : ℕ) → bit_at (bit_or m (2 ^ k)) k ≡ max (bit_at m k) 1
-bit_same m k = bit_at_or m (2 ^ k) k ∙ ap (λ b. max (bit_at m k) b) (bit_at-pow_same k)
-
-bit_other : (m k r : ℕ) → r ≢ k → bit_at (bit_or m (2 ^ k)) r ≡ bit_at m r
-bit_other m k r h = bit_at_or m (2 ^ k) r ∙ ap (λ b. max (bit_at m r) b) (bit_at-pow_other k r h) ∙ omega arith
-
-one_bit : (k : ℕ) → k < 16 → 1 * 2 ^ k % 65536 ≡ 2 ^ k
-one_bit k h =
-    let small : 2 ^ k < 2 ^ 16 = pow-lt h in
-    ap (λ b. b % 65536) (omega arith) ∙ mod-eq_of_lt small
 
 read_by : (rs ws k r : ℕ) (b : Bool) → eqb k r ≡ b → access_of (bit_at (bit_or rs (2 ^ k)) r) (bit_at ws r) ≡ over (access_of (bit_at rs r) (bit_at ws r)) (cond b reads nothing)
 read_by rs ws k r true e =

@@ -18,15 +18,13 @@ use Rattle.tk_query.specs.Holds.{holds}
 use Rattle.tk_query.specs.InOrder.{HoldInTurn, IsNotAfter, IsFirstStuck}
 use Rattle.tk_query.specs.Laws.{ExactIsUnique, LooseIsUnique, InOrderIsUnique, ListIsUnique, ExclusiveIsUnique}
 use Rattle.tk_query.specs.Matches.{HoldsAt, IsFirstUnlike, HoldsSomewhere, IsFirstNowhere}
+use Rattle.tk_query.proofs.Paired.{contains_none}
+use Rattle.tk_query_lifecycle.proofs.LifecycleIsUnique.{between}
 
-within_list : {A : Type 0} (xs : List A) (k : ℕ) (x : A) → slice_get xs k ≡ Some x → k < length xs
+pub within_list : {A : Type 0} (xs : List A) (k : ℕ) (x : A) → slice_get xs k ≡ Some x → k < length xs
 within_list [] k x e = absurd (none-some x e)
 within_list (y ∷ xs) zero x e = omega arith
 within_list (y ∷ xs) (suc k) x e = let lt = within_list xs k x e in omega arith
-
--- of two numbers neither of which is less than the other
-pub same_number : (j k : ℕ) → (j < k → ⊥) → (k < j → ⊥) → j ≡ k
-same_number j k f g = ⊎_elim {C = j ≡ k} (λ (lt : j < k). absurd (f lt)) (λ (le : k ≤ j). ⊎_elim {C = j ≡ k} (λ (lt : k < j). absurd (g lt)) (λ (ge : j ≤ k). omega arith) (cases_lt k j)) (cases_lt j k)
 
 unlike_not : (r : Recorded) (cs : List Condition) (l : List Entry) (k : ℕ) → IsFirstUnlike r cs l k → HoldsAt r cs l k → ⊥
 unlike_not r cs l k u h =
@@ -44,7 +42,7 @@ one_exact asked cs exact.WrongCount (exact.No j) h k = absurd (h k.0)
 one_exact asked cs (exact.No i) exact.Yes h k = absurd (unlike_not asked.recorded cs (events_of asked) i h.1 (k.1 i (within_list cs i h.1.condition h.1.condition_is)))
 one_exact asked cs (exact.No i) exact.WrongCount h k = absurd (k h.0)
 one_exact asked cs (exact.No i) (exact.No j) h k =
-    ap (λ n. exact.No n) (same_number i j
+    ap (λ n. exact.No n) (between i j
     (λ lt. unlike_not asked.recorded cs (events_of asked) i h.1 (k.1.before i lt))
     (λ lt. unlike_not asked.recorded cs (events_of asked) j k.1 (h.1.before j lt)))
 
@@ -58,7 +56,7 @@ one_loose asked cs loose.Yes loose.Yes h k = refl
 one_loose asked cs loose.Yes (loose.No j) h k = absurd (nowhere_not asked cs j k (h j (within_list cs j k.condition k.condition_is)))
 one_loose asked cs (loose.No i) loose.Yes h k = absurd (nowhere_not asked cs i h (k i (within_list cs i h.condition h.condition_is)))
 one_loose asked cs (loose.No i) (loose.No j) h k =
-    ap (λ n. loose.No n) (same_number i j (λ lt. nowhere_not asked cs i h (k.before i lt)) (λ lt. nowhere_not asked cs j k (h.before j lt)))
+    ap (λ n. loose.No n) (between i j (λ lt. nowhere_not asked cs i h (k.before i lt)) (λ lt. nowhere_not asked cs j k (h.before j lt)))
 
 module _ {C : Type 0} (fits : C → ℕ → Bool) where
   pub as_many : (from : ℕ) (cs : List C) (ps : List ℕ) → HoldInTurn fits from cs ps → length ps ≡ length cs
@@ -93,7 +91,7 @@ one_in_order asked cs (in_order.Yes p) (in_order.Yes q) h k =
     same_positions p.items q.items (as_many (fits asked) 0 cs p.items h.holds ∙ sym (as_many (fits asked) 0 cs q.items k.holds)) (h.least q.items k.holds) (k.least p.items h.holds)
 one_in_order asked cs (in_order.Yes p) (in_order.No k) h s = stuck_not (fits asked) cs p.items k s h.holds
 one_in_order asked cs (in_order.No j) (in_order.Yes q) s h = stuck_not (fits asked) cs q.items j s h.holds
-one_in_order asked cs (in_order.No j) (in_order.No k) h s = same_number j k (λ lt. h.stuck (s.before j lt)) (λ lt. s.stuck (h.before k lt))
+one_in_order asked cs (in_order.No j) (in_order.No k) h s = between j k (λ lt. h.stuck (s.before j lt)) (λ lt. s.stuck (h.before k lt))
 
 -- executions that are the same ones, in one order
 
@@ -119,9 +117,6 @@ pub head_or_rest : (x : Execution) (xs : List Execution) (z : Execution) → Con
 head_or_rest x xs z (zero, lt, e) = inl e
 head_or_rest x xs z (suc k, lt, e) = inr (k, omega arith, e)
 
-none_in : (z : Execution) → Contains [] z → ⊥
-none_in z h = let lt = h.1 in omega arith
-
 heads_same : (x y : Execution) (xs ys : List Execution) → AreOrdered (x ∷ xs) → AreOrdered (y ∷ ys) → Contains (y ∷ ys) x → Contains (x ∷ xs) y → x ≡ y
 heads_same x y xs ys first second has here = ⊎_elim {C = x ≡ y}
     (λ (e : y ≡ x). sym e)
@@ -139,8 +134,8 @@ rest_in x y xs ys order same z in_xs has = ⊎_elim {C = Contains ys z}
 
 same_lists : (xs ys : List Execution) → AreOrdered xs → AreOrdered ys → ((z : Execution) → Contains xs z → Contains ys z) → ((z : Execution) → Contains ys z → Contains xs z) → xs ≡ ys
 same_lists [] [] first second to back = refl
-same_lists [] (y ∷ ys) first second to back = absurd (none_in y (back y (at_head y ys)))
-same_lists (x ∷ xs) [] first second to back = absurd (none_in x (to x (at_head x xs)))
+same_lists [] (y ∷ ys) first second to back = absurd (contains_none y (back y (at_head y ys)))
+same_lists (x ∷ xs) [] first second to back = absurd (contains_none x (to x (at_head x xs)))
 same_lists (x ∷ xs) (y ∷ ys) first second to back =
     let same = heads_same x y xs ys first second (to x (at_head x xs)) (back y (at_head y ys)) in
     ap (λ (z : Execution). z ∷ xs) same

@@ -18,6 +18,7 @@ use Rattle.tk_query_conditions.specs.steps.CondOf.{conds_from}
 use Rattle.tk_query_conditions.proofs.Members.{cond_of-All, cond_of-Any}
 use Rattle.tk_query_conditions.specs.Reading.{begins_with}
 use Rattle.tk_query.specs.Holds.{has_within, is_engine, pairs_list, cond_holds, all_hold, any_holds, holds}
+use Rattle.tk_query_conditions.proofs.Prefixes.{begins_rest}
 
 -- two tests that are true where the other is
 pub same_bool : (a b : Bool) → (a ≡ true → b ≡ true) → (b ≡ true → a ≡ true) → a ≡ b
@@ -36,15 +37,6 @@ true_engine id h = ap is_engine h.1
 
 pub engine_is : (id : List SegmentView) (b : Bool) → (IsTrue b ↔ IsEngine id) → b ≡ is_engine id
 engine_is id b h = same_bool b (is_engine id) (λ e. true_engine id (h.0 e)) (λ e. h.1 (engine_true id e))
-
--- a text within another
-begins_rest : (prefix text : List ℕ) → begins_with prefix text ≡ true → (rest : List ℕ) × (text ≡ prefix ++ rest)
-begins_rest [] text e = (text, refl)
-begins_rest (b ∷ prefix) [] e = cc
-begins_rest (b ∷ prefix) (c ∷ text) e =
-    let parts = and_parts (eqb b c) (begins_with prefix text) e in
-    let r = begins_rest prefix text parts.1 in
-    (r.0, ap (λ n. n ∷ text) (sym (eqb-true b c parts.0)) ∙ ap (λ l. b ∷ l) r.1)
 
 begun : (prefix rest : List ℕ) → begins_with prefix (prefix ++ rest) ≡ true
 begun [] rest = refl

@@ -25,7 +25,7 @@ contains_one : (y x : Execution) → Contains (y ∷ []) x → y ≡ x
 contains_one y x (zero, lt, h) = h
 contains_one y x (suc k, lt, h) = absurd (omega arith)
 
-contains_none : (x : Execution) → Contains [] x → ⊥
+pub contains_none : (x : Execution) → Contains [] x → ⊥
 contains_none x h = omega (arith, h.1)
 
 same_execution : (x : Execution) (first last start : ℕ) (ending : Ending) → first ≡ x.first → last ≡ x.last → start ≡ x.start → ending ≡ x.ending → record { key = x.key; first = first; last = last; start = start; stop = x.stop; ending = ending } ≡ x

@@ -16,7 +16,8 @@ use Rattle.tk_query_conditions.specs.steps.Reading.{special_of, look, bares, all
 use Rattle.tk_query_conditions.specs.steps.Reading.{openers, Opener, opened, close, close_empty}
 use Rattle.tk_query_conditions.specs.steps.Reading.{after_word, is_prefix, step, next_text}
 use Rattle.tk_query_conditions.specs.steps.Reading.{last_text}
-use Rattle.tk_query_conditions.proofs.Prefixes.{if_some, guarded, mapped, look_entry, prefix_entry, each_kind, text_goes, part_text}
+use Rattle.tk_query_conditions.proofs.Prefixes.{if_some, guarded, look_entry, prefix_entry, each_kind, text_goes, part_text}
+use Rattle.tk_ids.proofs.ReadingLemmas.{option_map_some}
 
 abbrev pub words_of : List OpenGroup → List (List ℕ)
 words_of [] = []
@@ -60,7 +61,7 @@ text_byte (bytes, Outside) b q e = ⊎_elim {C = ((b == 40) ≡ false) × ((b ==
     (if_some (b == 37) (Some (bytes, Percent)) (if b == 40 || (b == 41 || b == 44) then None else Some (bytes ++ b ∷ [], Outside)) q e)
 text_byte (bytes, Percent) b q e = let at = eqb-true b 50 (guarded (b == 50) (Some (bytes, Digit)) q e).0 in (ap (λ n. n == 40) at, ap (λ n. n == 41) at, ap (λ n. n == 44) at)
 text_byte (bytes, Digit) b q e =
-    let m = mapped (λ c. (bytes ++ c ∷ [], Outside)) (special_of b) q e in
+    let m = option_map_some (λ c. (bytes ++ c ∷ [], Outside)) (special_of b) q e in
     (no_special 40 refl b m.0 m.1, no_special 41 refl b m.0 m.1, no_special 44 refl b m.0 m.1)
   where
     no_special : (k : ℕ) → special_of k ≡ None → (b c : ℕ) → special_of b ≡ Some c → (b == k) ≡ false
@@ -68,7 +69,7 @@ text_byte (bytes, Digit) b q e =
 
 inside : (k : List ℕ × Escape → State) (stack : List (List ℕ)) → ((partial : List ℕ × Escape) → brackets (k partial) ≡ (stack, part_text partial)) → (partial : List ℕ × Escape) (b : ℕ) (t : State) → option_map k (text_step partial b) ≡ Some t → bracket_step (brackets (k partial)) b ≡ brackets t
 inside k stack is partial b t e =
-    let m = mapped k (text_step partial b) t e in
+    let m = option_map_some k (text_step partial b) t e in
     let byte = text_byte partial b m.0 m.1 in
     ap (λ x. bracket_step x b) (is partial) ∙ elsewhere stack (part_text partial) b byte.0 byte.1 byte.2 ∙ ap (λ x. (stack, x)) (sym (text_goes partial b m.0 m.1)) ∙ sym (is m.0) ∙ ap brackets m.2
 
@@ -149,7 +150,7 @@ step_brackets (Word stack word) b t e = ⊎_elim {C = bracket_step (words_of sta
     (λ (h : ((b == 41 || b == 44) ≡ false) × ((if b == 40 then option_map (opened stack) (look openers word) else (if is_prefix bares (word ++ b ∷ []) || is_prefix openers (word ++ b ∷ []) then Some (Word stack (word ++ b ∷ [])) else None)) ≡ Some t)).
     ⊎_elim {C = bracket_step (words_of stack, word) b ≡ brackets t}
     (λ (g : ((b == 40) ≡ true) × (option_map (opened stack) (look openers word) ≡ Some t)).
-    let m = mapped (opened stack) (look openers word) t g.1 in
+    let m = option_map_some (opened stack) (look openers word) t g.1 in
     ap (bracket_step (words_of stack, word)) (eqb-true b 40 g.0) ∙ opens_as word m.0 m.1 stack ∙ ap brackets m.2)
     (λ (g : ((b == 40) ≡ false) × ((if is_prefix bares (word ++ b ∷ []) || is_prefix openers (word ++ b ∷ []) then Some (Word stack (word ++ b ∷ [])) else None) ≡ Some t)).
     let w = guarded (is_prefix bares (word ++ b ∷ []) || is_prefix openers (word ++ b ∷ [])) (Some (Word stack (word ++ b ∷ []))) t g.1 in
@@ -165,7 +166,7 @@ step_brackets (InText stack text_atom (bytes, Percent)) b t e = inside (InText s
 step_brackets (InText stack text_atom (bytes, Digit)) b t e = inside (InText stack text_atom) (text_atom_text text_atom ∷ words_of stack) (λ partial. refl) (bytes, Digit) b t e
 step_brackets (InKind stack word) b t e = ⊎_elim {C = bracket_step (brackets (InKind stack word)) b ≡ brackets t}
     (λ (h : ((b == 41) ≡ true) × (option_map (λ kind. After stack (OfKind kind)) (look kinds word) ≡ Some t)).
-    let m = mapped (λ kind. After stack (OfKind kind)) (look kinds word) t h.1 in
+    let m = option_map_some (λ kind. After stack (OfKind kind)) (look kinds word) t h.1 in
     at_closing (codes "kind" ∷ words_of stack) word b h.0 ∙ ap brackets m.2)
     (λ (h : ((b == 41) ≡ false) × ((if is_prefix kinds (word ++ b ∷ []) then Some (InKind stack (word ++ b ∷ [])) else None) ≡ Some t)).
     let w = guarded (is_prefix kinds (word ++ b ∷ [])) (Some (InKind stack (word ++ b ∷ []))) t h.1 in

@@ -17,8 +17,9 @@ use Rattle.tk_query_conditions.specs.declared.faults.TheConstants.{MAX_DEPTH}
 use Rattle.tk_query_conditions.specs.declared.faults.CondFault.TheVariants.{BadAtom, Deep}
 use Rattle.tk_query_conditions.proofs.CondLemmas.{reads_cond}
 use Rattle.tk_query_conditions.proofs.Depth.{brackets, step_brackets}
-use Rattle.tk_query_conditions.proofs.Prefixes.{mapped, look_entry, spelled_stack, spelled, IsSound, step_goes, step_sound, begins}
+use Rattle.tk_query_conditions.proofs.Prefixes.{look_entry, spelled_stack, spelled, IsSound, step_goes, step_sound, begins}
 use Rattle.tk_ids.proofs.MachineLemmas.{run_more, longest_prefix}
+use Rattle.tk_ids.proofs.ReadingLemmas.{option_map_some}
 
 -- how many groups are open
 abbrev pub height : State → ℕ
@@ -127,7 +128,7 @@ bad_at_end text s here none =
 ended_spelled : (s : State) (stack : List OpenGroup) (c : Cond) → ended s ≡ Some (stack, c) → spelled s ≡ spelled_stack stack ++ cond_text c
 ended_spelled (After stack' c') stack c e = let p = same_Some (stack', c') (stack, c) e in ap (λ q. spelled_stack q.0 ++ cond_text q.1) p
 ended_spelled (Word stack' word) stack c e =
-    let m = mapped (λ bare. (stack', Plain bare)) (look bares word) (stack, c) e in
+    let m = option_map_some (λ bare. (stack', Plain bare)) (look bares word) (stack, c) e in
     let is = look_entry (λ w a. w ≡ bare_text a) bares word m.0 (refl, (refl, (refl, (refl, (refl, (refl, (refl, tt))))))) m.1 in
     ap (λ w. spelled_stack stack' ++ w) is ∙ ap (λ q. spelled_stack q.0 ++ cond_text q.1) m.2
 ended_spelled (InText _ _ _) stack c e = absurd (none-some (stack, c) e)

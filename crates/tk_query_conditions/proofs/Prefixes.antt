@@ -20,6 +20,8 @@ use Rattle.tk_query_conditions.specs.steps.Reading.{openers, Opener, OfText, OfK
 use Rattle.tk_query_conditions.specs.steps.Reading.{OfPairs, OfAll, OfAny, OfNot, opened, close, close_empty}
 use Rattle.tk_query_conditions.specs.steps.Reading.{after_word, is_prefix, step, next_text}
 use Rattle.tk_query_conditions.specs.steps.Reading.{last_text}
+use Rattle.tk_ids.proofs.IdLemmas.{escaped-append}
+use Rattle.tk_ids.proofs.ReadingLemmas.{option_map_some}
 
 abbrev pub spelled_stack : List OpenGroup → List ℕ
 spelled_stack [] = []
@@ -67,10 +69,6 @@ pub guarded : {A : Type 0} (b : Bool) (x : Option A) (t : A) → (if b then x el
 guarded true x t e = (refl, e)
 guarded false x t e = absurd (none-some t e)
 
-pub mapped : {A B : Type 0} (f : A → B) (o : Option A) (t : B) → option_map f o ≡ Some t → (x : A) × (o ≡ Some x) × (f x ≡ t)
-mapped f None t e = absurd (none-some t e)
-mapped f (Some x) t e = (x, refl, same_Some (f x) t e)
-
 pub look_entry : {A : Type 0} (P : List ℕ → A → Type 0) (table : List (List ℕ × A)) (word : List ℕ) (a : A) → AllEntries P table → look table word ≡ Some a → P word a
 look_entry P [] word a all e = absurd (none-some a e)
 look_entry P (entry ∷ table) word a all e = ⊎_elim {C = P word a}
@@ -81,7 +79,7 @@ look_entry P (entry ∷ table) word a all e = ⊎_elim {C = P word a}
 cons_same : (b c : ℕ) (x y : List ℕ) → b ≡ c → x ≡ y → c ∷ x ≡ b ∷ y
 cons_same b c x y e f = cc
 
-begins_rest : (word text : List ℕ) → begins_with word text ≡ true → (rest : List ℕ) × (text ≡ word ++ rest)
+pub begins_rest : (word text : List ℕ) → begins_with word text ≡ true → (rest : List ℕ) × (text ≡ word ++ rest)
 begins_rest [] text e = (text, refl)
 begins_rest (b ∷ word) [] e = cc
 begins_rest (b ∷ word) (c ∷ text) e =
@@ -98,12 +96,8 @@ prefix_entry P (entry ∷ table) word all e = ⊎_elim {C = (rest : List ℕ) ×
     (λ (h : is_prefix table word ≡ true). prefix_entry P table word all.1 h)
     (or_cases (begins_with word entry.0) (is_prefix table word) e)
 
-pub escaped_append : (a b : List ℕ) → escaped (a ++ b) ≡ escaped a ++ escaped b
-escaped_append [] b = refl
-escaped_append (x ∷ a) b = ap (λ rest. spelled_by x ++ rest) (escaped_append a b) ∙ sym (append_assoc (spelled_by x) (escaped a) (escaped b))
-
 escaped_more : (a : List ℕ) (b : ℕ) → escaped (a ++ b ∷ []) ≡ escaped a ++ spelled_by b
-escaped_more a b = escaped_append a (b ∷ []) ∙ ap (λ rest. escaped a ++ rest) (append-nil (spelled_by b))
+escaped_more a b = escaped-append a (b ∷ []) ∙ ap (λ rest. escaped a ++ rest) (append-nil (spelled_by b))
 
 plain_spelling : (b : ℕ) → (b == 37) ≡ false → (b == 40 || (b == 41 || b == 44)) ≡ false → spelled_by b ≡ b ∷ []
 plain_spelling b no37 others =
@@ -148,7 +142,7 @@ text_goes (bytes, Percent) b q e =
     let g = guarded (b == 50) (Some (bytes, Digit)) q e in
     ap part_text (sym (same_Some (bytes, Digit) q g.1)) ∙ sym (append_assoc (escaped bytes) (37 ∷ []) (50 ∷ [])) ∙ ap (λ x. (escaped bytes ++ 37 ∷ []) ++ x ∷ []) (sym (eqb-true b 50 g.0))
 text_goes (bytes, Digit) b q e =
-    let m = mapped (λ c. (bytes ++ c ∷ [], Outside)) (special_of b) q e in
+    let m = option_map_some (λ c. (bytes ++ c ∷ [], Outside)) (special_of b) q e in
     ap part_text (sym m.2) ∙ append-nil (escaped (bytes ++ m.0 ∷ [])) ∙ escaped_more bytes m.0 ∙ ap (λ x. escaped bytes ++ x) (special_spelling b m.0 m.1) ∙ sym (append_assoc (escaped bytes) (37 ∷ 50 ∷ []) (b ∷ []))
 
 close_goes : (stack : List OpenGroup) (c : Cond) (b : ℕ) (t : State) → close stack c b ≡ Some t → spelled t ≡ (spelled_stack stack ++ cond_text c) ++ b ∷ []
@@ -205,14 +199,14 @@ opens_to word o e = look_entry OpensTo openers word o all e
 
 inside_text : (stack : List OpenGroup) (text_atom : TextAtom) (partial : List ℕ × Escape) (b : ℕ) (t : State) → option_map (InText stack text_atom) (text_step partial b) ≡ Some t → spelled t ≡ spelled (InText stack text_atom partial) ++ b ∷ []
 inside_text stack text_atom partial b t e =
-    let m = mapped (InText stack text_atom) (text_step partial b) t e in
+    let m = option_map_some (InText stack text_atom) (text_step partial b) t e in
     ap spelled (sym m.2) ∙ ap (λ x. spelled_stack stack ++ (text_atom_text text_atom ++ 40 ∷ x)) (text_goes partial b m.0 m.1) ∙ simp append_assoc
 
 inside_tag : (stack : List OpenGroup) (partial : List ℕ × Escape) (b : ℕ) (t : State)
     → option_map (InTag stack) (text_step partial b) ≡ Some t
     → spelled t ≡ spelled (InTag stack partial) ++ b ∷ []
 inside_tag stack partial b t e =
-    let m = mapped (InTag stack) (text_step partial b) t e in
+    let m = option_map_some (InTag stack) (text_step partial b) t e in
     ap spelled (sym m.2)
     ∙ ap (λ x. spelled_stack stack ++ (codes "segment(" ++ x)) (text_goes partial b m.0 m.1)
     ∙ simp append_assoc
@@ -221,14 +215,14 @@ inside_value : (stack : List OpenGroup) (tag : List ℕ) (partial : List ℕ × 
     (t : State) → option_map (InValue stack tag) (text_step partial b) ≡ Some t
     → spelled t ≡ spelled (InValue stack tag partial) ++ b ∷ []
 inside_value stack tag partial b t e =
-    let m = mapped (InValue stack tag) (text_step partial b) t e in
+    let m = option_map_some (InValue stack tag) (text_step partial b) t e in
     ap spelled (sym m.2)
     ∙ ap (λ x. spelled_stack stack ++ (codes "segment(" ++ (escaped tag ++ 44 ∷ x)))
     (text_goes partial b m.0 m.1) ∙ simp append_assoc
 
 inside_pairs : (stack : List OpenGroup) (pairs : Pairs) (key : Option (List ℕ)) (partial : List ℕ × Escape) (b : ℕ) (t : State) → option_map (InPairs stack pairs key) (text_step partial b) ≡ Some t → spelled t ≡ spelled (InPairs stack pairs key partial) ++ b ∷ []
 inside_pairs stack pairs key partial b t e =
-    let m = mapped (InPairs stack pairs key) (text_step partial b) t e in
+    let m = option_map_some (InPairs stack pairs key) (text_step partial b) t e in
     ap spelled (sym m.2) ∙ ap (λ x. spelled_stack stack ++ (codes "entry(" ++ (pairs_lead pairs ++ (key_text key ++ x)))) (text_goes partial b m.0 m.1) ∙ simp append_assoc
 
 next_goes : (stack : List OpenGroup) (pairs : Pairs) (key : Option (List ℕ)) (text : List ℕ) → spelled (next_text stack pairs key text) ≡ spelled (InPairs stack pairs key (text, Outside)) ++ 44 ∷ []
@@ -249,7 +243,7 @@ step_goes (Word stack word) b t e = ⊎_elim {C = spelled t ≡ spelled (Word st
     (λ (h : ((b == 41 || b == 44) ≡ false) × ((if b == 40 then option_map (opened stack) (look openers word) else (if is_prefix bares (word ++ b ∷ []) || is_prefix openers (word ++ b ∷ []) then Some (Word stack (word ++ b ∷ [])) else None)) ≡ Some t)).
     ⊎_elim {C = spelled t ≡ spelled (Word stack word) ++ b ∷ []}
     (λ (g : ((b == 40) ≡ true) × (option_map (opened stack) (look openers word) ≡ Some t)).
-    let m = mapped (opened stack) (look openers word) t g.1 in
+    let m = option_map_some (opened stack) (look openers word) t g.1 in
     ap spelled (sym m.2) ∙ opens_to word m.0 m.1 stack ∙ ap (λ x. (spelled_stack stack ++ word) ++ x ∷ []) (sym (eqb-true b 40 g.0)))
     (λ (g : ((b == 40) ≡ false) × ((if is_prefix bares (word ++ b ∷ []) || is_prefix openers (word ++ b ∷ []) then Some (Word stack (word ++ b ∷ [])) else None) ≡ Some t)).
     let w = guarded (is_prefix bares (word ++ b ∷ []) || is_prefix openers (word ++ b ∷ [])) (Some (Word stack (word ++ b ∷ []))) t g.1 in
@@ -265,7 +259,7 @@ step_goes (InText stack text_atom (bytes, Percent)) b t e = inside_text stack te
 step_goes (InText stack text_atom (bytes, Digit)) b t e = inside_text stack text_atom (bytes, Digit) b t e
 step_goes (InKind stack word) b t e = ⊎_elim {C = spelled t ≡ spelled (InKind stack word) ++ b ∷ []}
     (λ (h : ((b == 41) ≡ true) × (option_map (λ kind. After stack (OfKind kind)) (look kinds word) ≡ Some t)).
-    let m = mapped (λ kind. After stack (OfKind kind)) (look kinds word) t h.1 in
+    let m = option_map_some (λ kind. After stack (OfKind kind)) (look kinds word) t h.1 in
     let is = look_entry (λ w a. w ≡ kind_text a) kinds word m.0 (each_kind (λ w a. w ≡ kind_text a) (λ kind. refl) all_kinds) m.1 in
     ap spelled (sym m.2) ∙ simp append_assoc (ap (λ w. spelled_stack stack ++ (codes "kind(" ++ (w ++ 41 ∷ []))) (sym is) ∙ ap (λ x. spelled_stack stack ++ (codes "kind(" ++ (word ++ x ∷ []))) (sym (eqb-true b 41 h.0))))
     (λ (h : ((b == 41) ≡ false) × ((if is_prefix kinds (word ++ b ∷ []) then Some (InKind stack (word ++ b ∷ [])) else None) ≡ Some t)).
@@ -371,7 +365,7 @@ last_sound stack NoPairs None (x ∷ text) t e = absurd (none-some t e)
 last_sound stack (MorePairs pairs k v) None text t e = absurd (none-some t e)
 
 text_sound : (k : List ℕ × Escape → State) → ((partial : List ℕ × Escape) → IsSound (k partial)) → (o : Option (List ℕ × Escape)) (t : State) → option_map k o ≡ Some t → IsSound t
-text_sound k all o t e = let m = mapped k o t e in subst IsSound m.2 (all m.0)
+text_sound k all o t e = let m = option_map_some k o t e in subst IsSound m.2 (all m.0)
 
 pub step_sound : (s : State) (b : ℕ) (t : State) → step s b ≡ Some t → IsSound t
 step_sound (After stack c) b t e = close_sound stack c b t e
@@ -379,7 +373,7 @@ step_sound (Word stack word) b t e = ⊎_elim {C = IsSound t}
     (λ (h : ((b == 41 || b == 44) ≡ true) × (after_word stack word b ≡ Some t)). after_sound stack word b t h.1)
     (λ (h : ((b == 41 || b == 44) ≡ false) × ((if b == 40 then option_map (opened stack) (look openers word) else (if is_prefix bares (word ++ b ∷ []) || is_prefix openers (word ++ b ∷ []) then Some (Word stack (word ++ b ∷ [])) else None)) ≡ Some t)).
     ⊎_elim {C = IsSound t}
-    (λ (g : ((b == 40) ≡ true) × (option_map (opened stack) (look openers word) ≡ Some t)). let m = mapped (opened stack) (look openers word) t g.1 in subst IsSound m.2 (opened_sound stack m.0))
+    (λ (g : ((b == 40) ≡ true) × (option_map (opened stack) (look openers word) ≡ Some t)). let m = option_map_some (opened stack) (look openers word) t g.1 in subst IsSound m.2 (opened_sound stack m.0))
     (λ (g : ((b == 40) ≡ false) × ((if is_prefix bares (word ++ b ∷ []) || is_prefix openers (word ++ b ∷ []) then Some (Word stack (word ++ b ∷ [])) else None) ≡ Some t)).
     let w = guarded (is_prefix bares (word ++ b ∷ []) || is_prefix openers (word ++ b ∷ [])) (Some (Word stack (word ++ b ∷ []))) t g.1 in
     subst IsSound (same_Some (Word stack (word ++ b ∷ [])) t w.1) w.0)
@@ -392,7 +386,7 @@ step_sound (InText stack text_atom (bytes, Outside)) b t e = ⊎_elim {C = IsSou
 step_sound (InText stack text_atom (bytes, Percent)) b t e = text_sound (InText stack text_atom) (λ partial. tt) (text_step (bytes, Percent) b) t e
 step_sound (InText stack text_atom (bytes, Digit)) b t e = text_sound (InText stack text_atom) (λ partial. tt) (text_step (bytes, Digit) b) t e
 step_sound (InKind stack word) b t e = ⊎_elim {C = IsSound t}
-    (λ (h : ((b == 41) ≡ true) × (option_map (λ kind. After stack (OfKind kind)) (look kinds word) ≡ Some t)). let m = mapped (λ kind. After stack (OfKind kind)) (look kinds word) t h.1 in subst IsSound m.2 tt)
+    (λ (h : ((b == 41) ≡ true) × (option_map (λ kind. After stack (OfKind kind)) (look kinds word) ≡ Some t)). let m = option_map_some (λ kind. After stack (OfKind kind)) (look kinds word) t h.1 in subst IsSound m.2 tt)
     (λ (h : ((b == 41) ≡ false) × ((if is_prefix kinds (word ++ b ∷ []) then Some (InKind stack (word ++ b ∷ [])) else None) ≡ Some t)).
     let w = guarded (is_prefix kinds (word ++ b ∷ [])) (Some (InKind stack (word ++ b ∷ []))) t h.1 in
     subst IsSound (same_Some (InKind stack (word ++ b ∷ [])) t w.1) w.0)
@@ -466,7 +460,7 @@ finishes Digit = (codes "5", 37 ∷ [], refl)
 part_finishes : (partial : List ℕ × Escape) → (more : List ℕ) × (text : List ℕ) × (escaped text ≡ part_text partial ++ more)
 part_finishes (bytes, escape) =
     let f = finishes escape in
-    (f.0, bytes ++ f.1, escaped_append bytes f.1 ∙ ap (λ x. escaped bytes ++ x) f.2 ∙ sym (append_assoc (escaped bytes) (pending escape) f.0))
+    (f.0, bytes ++ f.1, escaped-append bytes f.1 ∙ ap (λ x. escaped bytes ++ x) f.2 ∙ sym (append_assoc (escaped bytes) (pending escape) f.0))
 
 pub begins : (s : State) → IsSound s → Begins IsCondText (spelled s)
 begins (After stack c) h = completes stack c

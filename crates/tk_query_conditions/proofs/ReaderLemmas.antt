@@ -30,7 +30,7 @@ use Rattle.tk_query_conditions.specs.steps.Reading.{text_step, ends_at, next_tex
 use Rattle.tk_query_conditions.specs.steps.Reading.{start, ended}
 use Rattle.std.specs.Str.{IsUtf8}
 use Rattle.std.specs.declared.alloc.AllocError.{AllocError}
-use Rattle.tk_ids.proofs.ReadingLemmas.{utf8_before, utf8_after, utf8_swap}
+use Rattle.tk_ids.proofs.ReadingLemmas.{option_map_some, utf8_after, utf8_before, utf8_swap}
 use Rattle.tk_base.proofs.Lists.{nil_from_length}
 use Rattle.tk_query_conditions.specs.declared.readers.Reader.{Reader}
 use Rattle.tk_query_conditions.specs.declared.readers.Position.{Position}
@@ -41,7 +41,7 @@ use Rattle.tk_query_conditions.specs.declared.faults.TheConstants.{MAX_DEPTH}
 use Rattle.tk_query_conditions.specs.declared.faults.CondFault.TheVariants.{Deep}
 use Rattle.tk_query_conditions.specs.Answer.{IsReadAs}
 use Rattle.tk_query_conditions.proofs.Depth.{words_of}
-use Rattle.tk_query_conditions.proofs.Prefixes.{if_some, guarded, mapped}
+use Rattle.tk_query_conditions.proofs.Prefixes.{if_some, guarded}
 use Rattle.tk_query_conditions.proofs.EndLemmas.{height, HasRead, reads_none, reads_more, deep_here}
 use Rattle.tk_query_conditions.proofs.Members.{cond_of-All, cond_of-Any}
 
@@ -161,7 +161,7 @@ depth_is stack position = depth_at (groups_of stack) position ∙ groups_length 
 
 -- a condition has ended, and no bracket is open
 pub ended_depth : (s : State) (c : Cond) → ended s ≡ Some ([], c) → depth_of s ≡ 0
-ended_depth (Word stack word) c e = let m = mapped (λ bare. (stack, Plain bare)) (look bares word) ([], c) e in ap (λ q. length q.0) m.2
+ended_depth (Word stack word) c e = let m = option_map_some (λ bare. (stack, Plain bare)) (look bares word) ([], c) e in ap (λ q. length q.0) m.2
 ended_depth (After stack d) c e = ap (λ q. length q.0) (same_Some (stack, d) ([], c) e)
 ended_depth (InText stack text_atom partial) c e = absurd (none-some ([], c) e)
 ended_depth (InKind stack word) c e = absurd (none-some ([], c) e)
@@ -280,7 +280,7 @@ part_keeps (bytes, Percent) q b rest u e =
     subst (λ r. KeepsPart r rest) (same_Some (bytes, Digit) q g.1)
     (subst (λ n. IsUtf8 ((bytes ++ 37 ∷ n ∷ []) ++ rest)) (eqb-true b 50 g.0) (subst IsUtf8 (append_assoc bytes (37 ∷ []) (b ∷ rest) ∙ sym (append_assoc bytes (37 ∷ b ∷ []) rest)) u))
 part_keeps (bytes, Digit) q b rest u e =
-    let m = mapped (λ c. (bytes ++ c ∷ [], Outside)) (special_of b) q e in
+    let m = option_map_some (λ c. (bytes ++ c ∷ [], Outside)) (special_of b) q e in
     let small = special_ascii b m.0 m.1 in
     subst (λ r. KeepsPart r rest) m.2
     (subst (λ l. IsUtf8 (l ++ rest)) (sym (append-nil (bytes ++ m.0 ∷ []))) (utf8_swap bytes (50 ∷ []) rest 37 b m.0 u (omega arith) small.0 small.1))
@@ -308,7 +308,7 @@ close_keeps (f ∷ stack) c b t rest e = ⊎_elim {C = Keeps t rest}
     (λ (h : ((b == 41) ≡ true) × (Some (After stack (closed f c)) ≡ Some t)). subst (λ s. Keeps s rest) (same_Some (After stack (closed f c)) t h.1) tt)
     (λ (h : ((b == 41) ≡ false) × ((if b == 44 then option_map (λ g. Word (g ∷ stack) []) (joined f c) else None) ≡ Some t)).
     let g = guarded (b == 44) (option_map (λ g. Word (g ∷ stack) []) (joined f c)) t h.1 in
-    let m = mapped (λ g. Word (g ∷ stack) []) (joined f c) t g.1 in
+    let m = option_map_some (λ g. Word (g ∷ stack) []) (joined f c) t g.1 in
     subst (λ s. Keeps s rest) m.2 tt)
     (if_some (b == 41) (Some (After stack (closed f c))) (if b == 44 then option_map (λ g. Word (g ∷ stack) []) (joined f c) else None) t (sym (close_group f stack c b) ∙ e))
 
@@ -316,7 +316,7 @@ close_empty_keeps : (stack : List OpenGroup) (b : ℕ) (t : State) (rest : List 
 close_empty_keeps [] b t rest e = absurd (none-some t e)
 close_empty_keeps (f ∷ stack) b t rest e =
     let g = guarded (b == 41) (option_map (After stack) (closed_empty f)) t (sym (close_empty_group f stack b) ∙ e) in
-    let m = mapped (After stack) (closed_empty f) t g.1 in
+    let m = option_map_some (After stack) (closed_empty f) t g.1 in
     subst (λ s. Keeps s rest) m.2 tt
 
 after_keeps : (stack : List OpenGroup) (word : List ℕ) (b : ℕ) (t : State) (rest : List ℕ) → after_word stack word b ≡ Some t → Keeps t rest
@@ -346,7 +346,7 @@ last_keeps stack (MorePairs pairs k v) None text rest t e = absurd (none-some t 
 
 mapped_keeps : (k : List ℕ × Escape → State) → ((partial : List ℕ × Escape) (rest : List ℕ) → KeepsPart partial rest → Keeps (k partial) rest) → (p : List ℕ × Escape) (b : ℕ) (t : State) (rest : List ℕ) → KeepsPart p (b ∷ rest) → option_map k (text_step p b) ≡ Some t → Keeps t rest
 mapped_keeps k all p b t rest u e =
-    let m = mapped k (text_step p b) t e in
+    let m = option_map_some k (text_step p b) t e in
     subst (λ s. Keeps s rest) m.2 (all m.0 rest (part_keeps p m.0 b rest u m.1))
 
 -- a byte that ends a text is below 128
@@ -363,7 +363,7 @@ step_keeps (Word stack word) b t rest after u e = ⊎_elim {C = Keeps t rest}
     (λ (h : ((b == 41 || b == 44) ≡ false) × ((if b == 40 then option_map (opened stack) (look openers word) else (if is_prefix bares (word ++ b ∷ []) || is_prefix openers (word ++ b ∷ []) then Some (Word stack (word ++ b ∷ [])) else None)) ≡ Some t)).
     ⊎_elim {C = Keeps t rest}
     (λ (g : ((b == 40) ≡ true) × (option_map (opened stack) (look openers word) ≡ Some t)).
-    let m = mapped (opened stack) (look openers word) t g.1 in
+    let m = option_map_some (opened stack) (look openers word) t g.1 in
     let at = eqb-true b 40 g.0 in
     subst (λ s. Keeps s rest) m.2 (opened_keeps stack m.0 rest (after (omega arith))))
     (λ (g : ((b == 40) ≡ false) × ((if is_prefix bares (word ++ b ∷ []) || is_prefix openers (word ++ b ∷ []) then Some (Word stack (word ++ b ∷ [])) else None) ≡ Some t)).
@@ -377,7 +377,7 @@ step_keeps (InText stack text_atom partial) b t rest after u e = ⊎_elim {C = K
     (if_some (ends_at 41 partial b) (Some (After stack (With text_atom partial.0))) (option_map (InText stack text_atom) (text_step partial b)) t e)
 step_keeps (InKind stack word) b t rest after u e = ⊎_elim {C = Keeps t rest}
     (λ (h : ((b == 41) ≡ true) × (option_map (λ kind. After stack (OfKind kind)) (look kinds word) ≡ Some t)).
-    let m = mapped (λ kind. After stack (OfKind kind)) (look kinds word) t h.1 in subst (λ s. Keeps s rest) m.2 tt)
+    let m = option_map_some (λ kind. After stack (OfKind kind)) (look kinds word) t h.1 in subst (λ s. Keeps s rest) m.2 tt)
     (λ (h : ((b == 41) ≡ false) × ((if is_prefix kinds (word ++ b ∷ []) then Some (InKind stack (word ++ b ∷ [])) else None) ≡ Some t)).
     let w = guarded (is_prefix kinds (word ++ b ∷ [])) (Some (InKind stack (word ++ b ∷ []))) t h.1 in
     subst (λ s. Keeps s rest) (same_Some (InKind stack (word ++ b ∷ [])) t w.1) tt)

@@ -18,6 +18,7 @@ use Rattle.tk_record.specs.Record.{fault_of, is_known, AreAppended, IsRecord}
 use Rattle.tk_record.proofs.Registrations.{desc_more}
 use Rattle.tk_record.proofs.AppendedEntries.{unknown_fault, plain_known}
 use Rattle.tk_query_lifecycle.specs.Lifecycle.{HasId, first_entries}
+use Rattle.tk_base.proofs.Lists.{All_at}
 
 take_one_more : (es : List Entry) (p : ℕ) (e : Entry) → slice_get es p ≡ Some e → take (suc p) es ≡ take p es ++ e ∷ []
 take_one_more [] p e at = absurd (none-some e at)
@@ -84,16 +85,13 @@ known_with past e false dynamic known lawful =
     ap is_some (desc_more past e e.event.key)
     ∙ or_first (desc past e.event.key) (registered e.event.key e) (sym (plain_known past e (desc past e.event.key) dynamic refl) ∙ known)
 
-all_at : {A : Type 0} (P : A → Type 0) (es : List A) (p : ℕ) (e : A) → All P es → slice_get es p ≡ Some e → P e
-all_at P es p e all at = subst P (get_or_from_slice_get es p e e at) (all p e (slice_get_within es p e at))
-
 -- the key of an event has a descriptor
 pub known_here : (r : Recorded) (p : ℕ) (e : Entry) → IsRecord r → slice_get r.entries p ≡ Some e → is_some (desc (with_entry (first_entries p r) e) e.event.key) ≡ true
 known_here r p e is at =
     let past = first_entries p r in
     known_with past e (of_kind Dynamic e) refl
     (no_fault_known past e (is_known past e) refl (appended_at (without_entries r.table) r.entries p e is.appended at))
-    (all_at (λ (x : Entry). is_lawful x.event.kind x.event.payload ≡ true) r.entries p e is.lawful at)
+    (All_at (λ (x : Entry). is_lawful x.event.kind x.event.payload ≡ true) r.entries p e is.lawful at)
 
 -- a descriptor that is known stays
 pub desc_kept : (past : Recorded) (e : Entry) (key : ℕ) (d : Descriptor) → desc past key ≡ Some d → desc (with_entry past e) key ≡ Some d

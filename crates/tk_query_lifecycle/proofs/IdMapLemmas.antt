@@ -25,7 +25,7 @@ id_at [] key id at = absurd (none-some id at)
 id_at (d ∷ ds) zero id at = (d, refl, same_Some d.id id at)
 id_at (d ∷ ds) (suc key) id at = id_at ds key id at
 
-at_id : (ds : List Descriptor) (key : ℕ) (d : Descriptor) → slice_get ds key ≡ Some d → slice_get (ids_of ds) key ≡ Some d.id
+pub at_id : (ds : List Descriptor) (key : ℕ) (d : Descriptor) → slice_get ds key ≡ Some d → slice_get (ids_of ds) key ≡ Some d.id
 at_id [] key d at = absurd (none-some d at)
 at_id (x ∷ ds) zero d at = ap (λ (o : Descriptor). Some o.id) (same_Some x d at)
 at_id (x ∷ ds) (suc key) d at = at_id ds key d at

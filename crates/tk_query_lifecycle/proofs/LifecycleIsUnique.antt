@@ -11,7 +11,7 @@ use Rattle.tk_query_lifecycle.specs.declared.lifecycle_rules.Lifecycle.TheVarian
 use Rattle.tk_query_lifecycle.specs.declared.lifecycle_rules.LifecycleRule.{LifecycleRule}
 use Rattle.tk_query_lifecycle.specs.declared.lifecycle_rules.LifecycleRule.TheVariants.{IdKnown, ParentUnknown, ParentNotRunning, RanAlready, NotRunning, ChildRunning}
 
-between : (a b : ℕ) → (a < b → ⊥) → (b < a → ⊥) → a ≡ b
+pub between : (a b : ℕ) → (a < b → ⊥) → (b < a → ⊥) → a ≡ b
 between a b f g = ⊎_elim {C = a ≡ b} (λ (lt : a < b). absurd (f lt))
     (λ (le : b ≤ a). ⊎_elim {C = a ≡ b} (λ (lt : b < a). absurd (g lt)) (λ (ge : a ≤ b). omega (arith, le, ge)) (cases_lt b a))
     (cases_lt a b)

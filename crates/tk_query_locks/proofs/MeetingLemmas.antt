@@ -26,7 +26,7 @@ use Rattle.tk_query_locks.specs.steps.Finishes.{AreEndless, IsEndlessAt}
 use Rattle.tk_query_locks.specs.steps.Positions.{descriptor_at, key_at}
 use Rattle.tk_query_locks.specs.steps.Holders.{ConflictAt, IsFirstMeeting, IsLeastAt, IsMeeting, Meet, MeetsNone, finish_of}
 use Rattle.tk_query_locks.proofs.DescentLemmas.{apart_swap, not_apart_itself}
-use Rattle.tk_query_locks.proofs.ParentLemmas.{place_within}
+use Rattle.tk_query.proofs.AnswerIsUnique.{within_list}
 
 -- ---- the descriptors of executions
 
@@ -37,7 +37,7 @@ entry_within r p d is = by (key_at r p) refl is
     by : (o : Option ℕ) → key_at r p ≡ o → option_and_then (desc r) o ≡ Some d → p < length r.entries
     by None at none = absurd (none-some d none)
     by (Some key) at some =
-        let lt = place_within (map (λ (x : Entry). x.event.key) r.entries) p key at in
+        let lt = within_list (map (λ (x : Entry). x.event.key) r.entries) p key at in
         let size = length-map r.entries (λ (x : Entry). x.event.key) in
         omega (arith, lt, size)
 

@@ -23,6 +23,7 @@ use Rattle.tk_record.specs.Record.{IsRecord}
 use Rattle.tk_query_locks.specs.Conflicts.{HasChild, Writes}
 use Rattle.tk_query_locks.specs.declared.parents.Parents.{Parents}
 use Rattle.tk_query_locks.specs.steps.Parents.{AreParents, AreParentsOnly, HasChildUnder, HasParentOf, IsParentText, IsUnwritten, has_text}
+use Rattle.tk_query.proofs.AnswerIsUnique.{within_list}
 
 -- an entry registers the descriptor under the key
 pub record IsRegistered (es : List Entry) (key : ℕ) (d : Descriptor) : Type 0 where
@@ -73,12 +74,6 @@ static_or_registered r key d is = by (slice_get r.table key) refl is
     by : (o : Option Descriptor) → slice_get r.table key ≡ o → option_or o (desc_in r.entries key) ≡ Some d → (slice_get r.table key ≡ Some d) ⊎ IsRegistered r.entries key d
     by (Some x) here some = inl (here ∙ some)
     by None here some = inr (registered_by r.entries key d some)
-
--- a place that is there lies within the list
-pub place_within : {A : Type 0} (xs : List A) (i : ℕ) (x : A) → slice_get xs i ≡ Some x → i < length xs
-place_within [] i x e = absurd (none-some x e)
-place_within (y ∷ xs) zero x e = omega arith
-place_within (y ∷ xs) (suc i) x e = let lt = place_within xs i x e in omega arith
 
 -- the id above one with one segment more
 parent_of_more : (id : List SegmentView) (s : SegmentView) → parent_of (id ++ s ∷ []) ≡ id
@@ -180,9 +175,9 @@ pub parents_all : (r : Recorded) (parents : Parents) (count : ℕ) → AreRegist
 parents_all r parents count are all = record {
   only = are.only;
   each = λ key text d described is. ⊎_elim {C = has_text parents text ≡ true}
-      (λ (static : slice_get r.table key ≡ Some d). are.statics key (place_within r.table key d static) text d described is)
+      (λ (static : slice_get r.table key ≡ Some d). are.statics key (within_list r.table key d static) text d described is)
       (λ (by : IsRegistered r.entries key d).
-      let lt = place_within r.entries by.position by.entry by.stands in
+      let lt = within_list r.entries by.position by.entry by.stands in
       let of_key = by.of_key in
       subst (HasParentOf r parents) of_key (are.each by.position by.entry (omega arith) by.stands by.dynamic) text d described is)
       (static_or_registered r key d described);
@@ -217,7 +212,7 @@ no_locks : (r : Recorded) (key : ℕ) (d : Descriptor) → IsRecord r → IsRegi
 no_locks r key d is by =
     lawful_locks by.entry.event.kind by.entry.event.payload d by.describes
     (subst (λ (e : Entry). is_lawful e.event.kind e.event.payload ≡ true) (place_is r.entries by.position by.entry by.stands)
-    (is.lawful by.position by.entry (place_within r.entries by.position by.entry by.stands)))
+    (is.lawful by.position by.entry (within_list r.entries by.position by.entry by.stands)))
 
 none_written : (name : List ℕ) (d : Descriptor) → d.locks ≡ [] → ¬ Writes name d
 none_written name d none has = absurd (let lt = has.1 in let size = ap length none in omega (arith, lt, size))
@@ -228,7 +223,7 @@ pub unwritten : (r : Recorded) (name : List ℕ) (count : ℕ) → IsRecord r �
     length r.table ≤ count → IsUnwritten r name
 unwritten r name count is none all key d described = ⊎_elim {C = ¬ Writes name d}
     (λ (static : slice_get r.table key ≡ Some d).
-    let within = place_within r.table key d static in
+    let within = within_list r.table key d static in
     none key d (omega arith) described)
     (λ (by : IsRegistered r.entries key d). none_written name d (no_locks r key d is by))
     (static_or_registered r key d described)

@@ -17,7 +17,7 @@ use Rattle.tk_queue_replay.specs.Replay.{IsTurn}
 use Rattle.tk_record_text.specs.steps.Form.{IsForm}
 use Rattle.tk_record_text.specs.Reading.{number_of}
 use Rattle.tk_record_text.specs.steps.Reading.{◌>>=◌, in_line}
-use Rattle.tk_record_text.proofs.Choices.{guarded, stepped, same_bytes}
+use Rattle.tk_record_text.proofs.Choices.{guarded, stepped}
 use Rattle.tk_record_text.proofs.NumberForms.{number_found, number_again}
 use Rattle.tk_record_text.proofs.Clean.{is_false}
 use Rattle.tk_record_text.proofs.TailForms.{IsField, word, decimal_field}
@@ -27,6 +27,7 @@ use Rattle.tk_queue_replay.specs.Script.{workers_fields, IsCount, workers_line, 
 use Rattle.tk_queue_replay.specs.Script.{turns_fields, AreTurns, turns_line}
 use Rattle.tk_queue_replay.specs.steps.Script.{within, worker_of, workers_of, turn_of, turns_from}
 use Rattle.tk_queue_replay.specs.steps.Script.{turns_of}
+use Rattle.tk_events.proofs.KindLemmas.{same_bytes}
 
 two : (a a2 b b2 : List ℕ) → a ≡ a2 → b ≡ b2 → a ∷ b ∷ [] ≡ a2 ∷ b2 ∷ []
 two a a2 b b2 p q = rw (p, q) refl

@@ -13,8 +13,9 @@ use Rattle.tk_queue_replay.specs.declared.turns.Turn.{Turn}
 use Rattle.tk_queue_replay.specs.declared.turns.Turn.TheVariants.{Worker, Take}
 use Rattle.tk_queue_core.specs.Core.{worker_of, items_of, entry, script}
 use Rattle.tk_queue_replay.specs.TurnItems.{is_worker_turn, is_turn_of, item_after, AreItemsOf}
-use Rattle.tk_queue_core.proofs.ListCuts.{cut_last, never}
+use Rattle.tk_queue_core.proofs.ListCuts.{cut_last}
 use Rattle.tk_queue_core.proofs.CoreSteps.{filter-append, items_of-own, items_of-foreign}
+use Rattle.tk_base.proofs.Lists.{no_split}
 
 count_last : {X : Type 0} (p : X → Bool) (xs : List X) (x : X) → count_by p (xs ++ x ∷ []) ≡ count_by p xs + cond {A = ℕ} (p x) 1 0
 count_last p xs x = sum_by_push (λ y. if p y then 1 else 0) xs x
@@ -30,7 +31,7 @@ pub record Ordered (scripts : List (List Event)) (turns : List Turn) (items : Li
   pub counted : (w : ℕ) → count_by (is_turn_of w) turns ≡ length (items_of w items)
 
 pub none_ordered : (scripts : List (List Event)) → Ordered scripts [] []
-none_ordered scripts = record { are = record { number = refl; each = λ before w after h. absurd (never before (Worker w) after h) }; counted = λ w. refl }
+none_ordered scripts = record { are = record { number = refl; each = λ before w after h. absurd (no_split before (Worker w) after h) }; counted = λ w. refl }
 
 same_worker : (v w : ℕ) → Worker v ≡ Worker w → v ≡ w
 same_worker v w e = cc

@@ -13,12 +13,13 @@ use Rattle.tk_events.specs.declared.events.Entry.{Entry}
 use Rattle.tk_record.specs.Entries.{of_kind, registers, registered, desc, desc_in}
 use Rattle.tk_record.specs.Record.{is_next, is_known}
 use Rattle.tk_record.specs.Mixing.{of_worker}
-use Rattle.tk_queue_core.proofs.ListCuts.{cut_last, never}
+use Rattle.tk_queue_core.proofs.ListCuts.{cut_last}
 use Rattle.tk_queue_session.specs.Limits.{most_events}
 use Rattle.tk_queue_session.specs.Emission.{entry_by, entries_by, is_known_after, MayEmit, Emission}
+use Rattle.tk_base.proofs.Lists.{no_split}
 
 pub emission_none : (n w : ℕ) → Emission n w []
-emission_none n w = record { each = λ before e after h. absurd (never before e after h); few = omega arith }
+emission_none n w = record { each = λ before e after h. absurd (no_split before e after h); few = omega arith }
 
 pub emission_more : (n w : ℕ) (es : List Event) (x : Event) → Emission n w es → MayEmit n w es x → length es < most_events → Emission n w (es ++ x ∷ [])
 emission_more n w es x m may room = record {

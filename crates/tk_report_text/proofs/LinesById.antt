@@ -27,13 +27,11 @@ use Rattle.tk_report_text.specs.GroupedLines.{BorrowedText, IdLines}
 use Rattle.tk_report_text.specs.steps.GroupedLines.{texts, dynamic_index, lines_in, tail_line}
 use Rattle.tk_report_text.specs.steps.GroupedLines.{text_of, AddsEvent, IndexesId, IsAt, IsGrouped}
 use Rattle.tk_report_text.specs.steps.GroupedLines.{IsKept}
+use Rattle.tk_events.proofs.KindLemmas.{same_bytes}
 
 pub on_ok : {T E A B : Type 0} (r : Result T E) → (A → B) → OnOk r A → OnOk r B
 on_ok (Ok x) f a = f a
 on_ok (Err e) f a = tt
-
-pub same_text : (x y : List ℕ) → bytes_eq x y ≡ true → x ≡ y
-same_text x y at = (bytes_decides x y).0 at
 
 is_itself : (x : List ℕ) → bytes_eq x x ≡ true
 is_itself x = (bytes_decides x x).1 refl
@@ -201,7 +199,7 @@ module _ (r : Recorded) (old : LinesById) (dynamic_ids : HashMap BorrowedText �
   index_stays x j at = by (bytes_eq id.now x) refl
     where
       by : (b : Bool) → bytes_eq id.now x ≡ b → dynamic_index after x ≡ Some j
-      by true e = absurd (none-some j (sym none ∙ ap (dynamic_index old) (same_text id.now x e) ∙ at))
+      by true e = absurd (none-some j (sym none ∙ ap (dynamic_index old) (same_bytes id.now x e) ∙ at))
       by false e = index_at x false e ∙ at
 
   -- a new id that isn't in the table got the next index
@@ -226,7 +224,7 @@ module _ (r : Recorded) (old : LinesById) (dynamic_ids : HashMap BorrowedText �
       apart x j k (inr a) (inr b) = a.0 ∙ sym b.0
 
       dynamic : (x : List ℕ) (j : ℕ) → dynamic_index after x ≡ Some j → (b : Bool) → bytes_eq id.now x ≡ b → IsAt ids.items x j
-      dynamic x j at true e = subst (λ n. IsAt ids.items x n) (same_Some i j (sym (index_at x true e) ∙ at)) (subst (λ y. IsAt ids.items y i) (same_text id.now x e) here)
+      dynamic x j at true e = subst (λ n. IsAt ids.items x n) (same_Some i j (sym (index_at x true e) ∙ at)) (subst (λ y. IsAt ids.items y i) (same_bytes id.now x e) here)
       dynamic x j at false e = stays x j (g.dynamic x j (sym (index_at x false e) ∙ at))
 
       all : (x : List ℕ) (j : ℕ) → Was x j → (j < length r.table) ⊎ (dynamic_index after x ≡ Some j)
@@ -278,7 +276,7 @@ lines_at (e ∷ ids) x zero d at only = ap (λ b. unwrap_or (cond b (Some e.1) (
 lines_at (e ∷ ids) x (suc i) d at only = by (bytes_eq x e.0.now) refl (λ later. lines_at ids x i d at later)
   where
     by : (b : Bool) → bytes_eq x e.0.now ≡ b → (((j : ℕ) → IsAt ids x j → j ≡ i) → lines_in ids x ≡ (get_or ids i d).1) → unwrap_or (cond (bytes_eq x e.0.now) (Some e.1) (lookup (λ k. bytes_eq x k.now) ids)) [] ≡ (get_or ids i d).1
-    by true same rest = absurd (omega (arith, only 0 (ap Some (sym (same_text x e.0.now same)))))
+    by true same rest = absurd (omega (arith, only 0 (ap Some (sym (same_bytes x e.0.now same)))))
     by false other rest = ap (λ b. unwrap_or (cond b (Some e.1) (lookup (λ k. bytes_eq x k.now) ids)) []) other ∙ rest (λ j here. omega (arith, only (suc j) here))
 
 -- another id has the lines that it had
@@ -347,8 +345,8 @@ line_added r old new ids v i e h e_is put = record {
 
     by : (x : List ℕ) (b : Bool) → bytes_eq text x ≡ b → lines_in ids.items x ≡ cond (bytes_eq text x) (lines_in old.ids.items x ++ line) (lines_in old.ids.items x)
     by x true eq =
-        ap (lines_in ids.items) (sym (same_text text x eq)) ∙ lines_there ∙ ap (λ (t : List ℕ). t ++ line) (h.lines text)
-        ∙ ap (λ (y : List ℕ). lines_in old.ids.items y ++ line) (same_text text x eq) ∙ sym (ap (λ b. cond b (lines_in old.ids.items x ++ line) (lines_in old.ids.items x)) eq)
+        ap (lines_in ids.items) (sym (same_bytes text x eq)) ∙ lines_there ∙ ap (λ (t : List ℕ). t ++ line) (h.lines text)
+        ∙ ap (λ (y : List ℕ). lines_in old.ids.items y ++ line) (same_bytes text x eq) ∙ sym (ap (λ b. cond b (lines_in old.ids.items x ++ line) (lines_in old.ids.items x)) eq)
     by x false eq =
         ap (λ (is : List IdLines). lines_in is x) put ∙ lines_other new.ids.items x i next here (other x eq) ∙ h.lines x
         ∙ sym (ap (λ b. cond b (lines_in old.ids.items x ++ line) (lines_in old.ids.items x)) eq)
@@ -358,7 +356,7 @@ line_added r old new ids v i e h e_is put = record {
           where
             differs : (b : Bool) → bytes_eq x e.0.now ≡ b → b ≡ false
             differs false is = refl
-            differs true is = absurd (true≢false (sym ((bytes_decides text x).1 (sym is_text ∙ sym (same_text x e.0.now is))) ∙ eq))
+            differs true is = absurd (true≢false (sym ((bytes_decides text x).1 (sym is_text ∙ sym (same_bytes x e.0.now is))) ∙ eq))
 
 -- ---- event after event
 

@@ -29,7 +29,7 @@ use Rattle.tk_report_text.specs.Reports.{id_lines, id_texts, label_line, labels_
 use Rattle.tk_report_text.specs.GroupedLines.{BorrowedText, IdLines, id_with_lines}
 use Rattle.tk_report_text.specs.steps.GroupedLines.{texts, has_lines, is_empty, AreApart, IsAt}
 use Rattle.tk_report_text.specs.steps.GroupedLines.{IsInOrder, IsKept}
-use Rattle.tk_report_text.proofs.LinesById.{same_text}
+use Rattle.tk_events.proofs.KindLemmas.{same_bytes}
 
 abbrev order : List ℕ → List ℕ → Ordering
 order = slice_cmp nat_cmp
@@ -56,7 +56,7 @@ distinct ids apart = IsDistinct-from_apart is_same (keys_of ids) differ
         by : (b : Bool) → is_same (get_or (keys_of ids) i d) (get_or (keys_of ids) j d) ≡ b → b ≡ false
         by false e = refl
         by true e =
-            let one = same_text (get_or (keys_of ids) i d).now (get_or (keys_of ids) j d).now e in
+            let one = same_bytes (get_or (keys_of ids) i d).now (get_or (keys_of ids) j d).now e in
             let at = subst (λ x. IsAt ids x i) one (key_at ids i d (omega (arith, before, below))) in
             absurd (omega (arith, before, apart (get_or (keys_of ids) j d).now i j at (key_at ids j d below)))
 

@@ -4,10 +4,11 @@ use Rattle.tk_engine_lifecycle.specs.Units.{Frame}
 use Rattle.tk_engine_unit_events.specs.Covered.{IsKeyBelow}
 use Rattle.tk_engine_unit_events.specs.Running.{with_ids}
 use Rattle.tk_engine_unit_events.proofs.Played.{played_skip}
-use Rattle.tk_engine_unit_events.proofs.UnitStates.{described_here, may_here, skipped}
+use Rattle.tk_engine_unit_events.proofs.UnitStates.{may_here, skipped}
 use Rattle.tk_engine_execute.specs.Engines.{Extends}
 use Rattle.tk_engine_unit_events.proofs.UnitSteps.{extends_more}
 use Rattle.tk_engine_unit_events.proofs.Taken.{noted_after}
+use Rattle.tk_query_lifecycle.proofs.IdMapLemmas.{at_id}
 use Rattle.tk_engine_unit_events.proofs.unit_events.UnitEvents.skip.Goals as goal
 
 pub invariant_of-self-2 : goal.invariant_of-self-2
@@ -35,7 +36,7 @@ invariant_of-self-2 g c =
         played = played_skip t g.K.UnitRun.unit.may_step g.K.UnitRun.unit.keys.first
             g.K.UnitRun.unit.start _ _ p.next c.end_below-next.result c.args.key d.id _
             c.in_ok-emit.ensures.ok c.if-key-self.false refl refl
-            (described_here t c.args.key d is)
+            (at_id t c.args.key d is)
             (λ other a b. subst (λ (l : List Descriptor). IsKeyBelow l d.id other)
             (c.deref-2.ensures ∙ c.table-2.ensures ∙ table)
             (c.end_below-next.ensures.below other a b)) c.requires i.2.played;
