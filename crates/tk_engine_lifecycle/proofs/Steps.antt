@@ -1,5 +1,5 @@
 -- What a unit under way may emit next, and what it is then.
-use Rattle.std.proofs.Common.{◌≡◌, ◌≢◌, ◌<◌, ◌-◌, ◌==◌, ◌&&◌, ◌||◌, not, ℕ, ◌⊎◌, inl, inr, ⊎_elim, Bool, true, false, if◌then◌else◌, List, [], ◌∷◌, ◌++◌, length, take, length-append, Option, Some, None, slice_get, refl, sym, ap, ap₂, ◌∙◌, subst, append-nil, arith, tests}
+use Rattle.std.proofs.Common.{◌≡◌, ◌≢◌, ◌<◌, ◌-◌, ◌==◌, ◌&&◌, ◌||◌, not, ℕ, ◌⊎◌, inl, inr, ⊎_elim, Bool, true, false, if◌then◌else◌, List, [], ◌∷◌, ◌++◌, length, Option, Some, None, slice_get, refl, sym, ap, ap₂, ◌∙◌, subst, append-nil, arith, tests}
 use Rattle.std.specs.List.{list_any}
 use Rattle.std.specs.Option.{option_or}
 use Rattle.std.proofs.lemmas.Option.{none-some}
@@ -21,13 +21,13 @@ use Rattle.tk_query_lifecycle.specs.KeepsLifecycle.{IsWhole, is_step, steps_of}
 use Rattle.tk_engine_lifecycle.specs.Units.{Frame, AreOf, KeepsAround}
 use Rattle.tk_engine_lifecycle.proofs.States.{begins_again, registered_again, state, under_way_again}
 use Rattle.tk_engine_lifecycle.specs.UnderWay.{AreNested, HasRunningParentIn, IsOneOf, IsUnderWay, MayBegin, MayBeRegistered, MayFollow, so_far}
-use Rattle.tk_engine_lifecycle.proofs.Splits.{split_take}
 use Rattle.tk_engine_lifecycle.proofs.ByKey.{desc_in-append, events, events_by, has_event_is, has_kind, has_run, hits, hits-append, kinds, later_id, one_id, same_runs}
 use Rattle.tk_engine_lifecycle.proofs.SeparateTurns.{Hit, hit_or_none}
 use Rattle.tk_engine_lifecycle.proofs.Kept.{hit_before, start_events}
 use Rattle.tk_engine_lifecycle.proofs.UnitEnds.{closes, common_not_own, no_own, own_id}
 use Rattle.tk_engine_lifecycle.specs.Laws.{Begins, Closes, Finishes, Registers, Reports, Skips, Starts}
 use Rattle.tk_engine_lifecycle.proofs.UnitProgress.{each_more, kept_id, nested_more, other_steps, own_more, own_steps, so_far_more, steps_by}
+use Rattle.tk_ids.proofs.ParentIds.{parent_of-child}
 
 -- ---- whether a key runs, by its steps
 
@@ -294,11 +294,6 @@ finishes f unit w l running e around low u kind =
 pub one_long : (s : SegmentView) → length (s ∷ []) ≡ 1
 one_long s = omega arith
 
-pub parent_is : (id : List SegmentView) (s : SegmentView) → parent_of (id ++ s ∷ []) ≡ id
-parent_is id s =
-    let n : length (id ++ s ∷ []) - 1 ≡ length id = omega (arith, length-append id (s ∷ []), one_long s) in
-    ap (λ k. take k (id ++ s ∷ [])) n ∙ split_take id s []
-
 pub or_none : {A : Type 0} (a b : Option A) → a ≡ None → option_or a b ≡ b
 or_none None b e = refl
 or_none (Some x) b e = cc
@@ -345,7 +340,7 @@ registers_below f unit w l running e d around low u kind payload m =
           m.new k.earlier (subst (HasId (so_far f w l) k.earlier) (sym same) k.known);
       below = λ id h long.
           let same : d.id ≡ id = one_id (with_entry (so_far f w l) (entry_by w e)) e.key d.id id now h in
-          let above : m.id ≡ parent_of id = sym (parent_is m.id m.segment) ∙ ap parent_of (sym m.child ∙ same) in
+          let above : m.id ≡ parent_of id = sym (parent_of-child m.id m.segment) ∙ ap parent_of (sym m.child ∙ same) in
           (m.above, subst (HasId (so_far f w l) m.above) above m.above_is, runs_there f unit w l running m.above around low u m.runs);
     } in
     emits_plain f unit w l running e d.id u (dynamic_no_step e.kind kind) follow (subst (λ r. HasId r e.key d.id) (sym (so_far_more f w l e)) now) m.belongs
@@ -361,7 +356,7 @@ begins_registered f unit w l running e d kind payload m =
       belongs = m.belongs;
       parent = λ id h long.
           let same : d.id ≡ id = one_id (so_far f w (l ++ e ∷ [])) e.key d.id id now h in
-          let above : m.id ≡ parent_of id = sym (parent_is m.id m.segment) ∙ ap parent_of (sym m.child ∙ same) in
+          let above : m.id ≡ parent_of id = sym (parent_of-child m.id m.segment) ∙ ap parent_of (sym m.child ∙ same) in
           (m.above, subst (HasId (so_far f w (l ++ e ∷ [])) m.above) above (kept_id f w l e m.above m.id m.above_is), inl m.runs);
     }
 

@@ -7,14 +7,13 @@ use Rattle.std.proofs.lemmas.Bool.{cases_lt}
 use Rattle.std.proofs.lemmas.List.Sums.{sum_by-cons}
 use Rattle.std.proofs.lemmas.List.{map-append}
 use Rattle.std.proofs.lemmas.Option.{same_Some}
-use Rattle.tk_base.proofs.Options.{option_or-assoc, option_or_none_left, option_or_none_right}
+use Rattle.tk_base.proofs.Options.{option_or_none_left, option_or_none_right}
 use Rattle.tk_ids.specs.IdText.{SegmentView}
 use Rattle.tk_ids.specs.Table.{unlocked}
 use Rattle.tk_ids.specs.declared.descriptors.Descriptor.{Descriptor}
 use Rattle.tk_events.specs.declared.kinds.Kind.TheVariants.{Dynamic}
 use Rattle.tk_events.specs.declared.payloads.Payload.TheVariants.{Described, Nothing}
 use Rattle.tk_events.specs.declared.events.Event.{Event}
-use Rattle.tk_events.specs.declared.events.Entry.{Entry}
 use Rattle.tk_events.specs.Registration.{registered_key}
 use Rattle.tk_record.specs.Entries.{desc, desc_in}
 use Rattle.tk_queue_session.specs.Emission.{registrations, is_dynamic, entries_by, entry_by}

@@ -10,7 +10,8 @@ use Rattle.tk_ids.specs.IdText.{SegmentView, parent_of}
 use Rattle.tk_ids.specs.declared.descriptors.Descriptor.{Descriptor}
 use Rattle.tk_ids.specs.Table.{AreDifferent, HasId as TableHasId, ids_of}
 use Rattle.tk_engine_unit_events.specs.Owners.{key_of, same_id, owner_at, owner_of, owner_within}
-use Rattle.tk_engine_lifecycle.proofs.Steps.{one_long, parent_is}
+use Rattle.tk_engine_lifecycle.proofs.Steps.{one_long}
+use Rattle.tk_ids.proofs.ParentIds.{parent_of-child}
 
 both_true : (a b c : Bool) → a ≡ true → b ≡ true → c ≡ true → (a && b && c) ≡ true
 both_true true true true p q r = refl
@@ -98,4 +99,4 @@ owner_child table owners none id s n =
     ap (λ o. owner_at owners none o
     (owner_within table owners none (length (id ++ s ∷ [])) (parent_of (id ++ s ∷ []))))
     (no_key table (id ++ s ∷ []) n)
-    ∙ ap₂ (λ n i. owner_within table owners none n i) long (parent_is id s)
+    ∙ ap₂ (λ n i. owner_within table owners none n i) long (parent_of-child id s)

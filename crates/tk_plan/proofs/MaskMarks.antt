@@ -1,11 +1,9 @@
 -- What masks ask, as marks are added.
-use Rattle.std.proofs.Common.{◌≡◌, ◌≢◌, ℕ, zero, suc, ◌<◌, ◌^◌, max, ◌*◌, ◌%◌, Bool, cond, true, false, bit_or, List, refl, sym, ap, ap₂, ◌∙◌, arith, Some}
+use Rattle.std.proofs.Common.{◌≡◌, ℕ, zero, suc, ◌<◌, ◌^◌, max, ◌*◌, ◌%◌, Bool, cond, true, false, bit_or, List, refl, sym, ap, ap₂, ◌∙◌, Some}
 use Rattle.std.specs.Int.{bit_at}
-use Rattle.std.proofs.Math.Pow.{pow-lt}
-use Rattle.std.proofs.Math.Nat.{mod-eq_of_lt}
 use Rattle.std.proofs.Math.Dec.{eqb}
 use Rattle.std.proofs.lemmas.Bool.{eqb-true, eqb-false}
-use Rattle.std.proofs.lemmas.Nat.Bits.{bit_at_or, bit_at-zero, bit_at-pow_same, bit_at-pow_other}
+use Rattle.std.proofs.lemmas.Nat.Bits.{bit_at-zero}
 use Rattle.tk_locks.specs.NeedView.{NeedView}
 use Rattle.tk_locks.specs.Needs.{Access, nothing, reads, writes, access_of, access, weight, word_of}
 use Rattle.tk_locks.proofs.LaneWords.{packed-same}

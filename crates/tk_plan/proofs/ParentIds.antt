@@ -1,9 +1,8 @@
 -- The parents of static nodes have their ids in the table.
-use Rattle.std.proofs.Common.{◌≡◌, ℕ, zero, suc, ◌+◌, ◌≤◌, ◌<◌, ◌⊎◌, inl, inr, List, [], ◌∷◌, ◌++◌, Bool, cond, true, false, Some, length, take, slice_get, refl, sym, ap, ap₂, ◌∙◌, subst, arith, length-append, append_assoc, append-nil}
-use Rattle.std.proofs.Math.Seq.{take-append_seam}
+use Rattle.std.proofs.Common.{◌≡◌, ℕ, zero, suc, ◌+◌, ◌≤◌, ◌<◌, ◌⊎◌, inl, inr, List, [], ◌∷◌, ◌++◌, Bool, cond, true, false, Some, length, slice_get, refl, sym, ap, ap₂, ◌∙◌, subst, arith, length-append, append_assoc, append-nil}
 use Rattle.std.proofs.lemmas.Option.{slice_get_within, same_Some}
 use Rattle.tk_base.proofs.Lists.{get_at_seam}
-use Rattle.tk_ids.specs.IdText.{SegmentView, parent_of}
+use Rattle.tk_ids.specs.IdText.{SegmentView}
 use Rattle.tk_ids.specs.declared.descriptors.Descriptor.{Descriptor}
 use Rattle.tk_ids.specs.Table.{ids_of}
 use Rattle.tk_plan.specs.declared.trees.nodes.Node.{Node}
@@ -15,6 +14,7 @@ use Rattle.tk_plan.specs.Parents.{parents, parents_below, HasParentAt, AreParent
 use Rattle.tk_plan.specs.Planned.{IsPlanned, is_rooted}
 use Rattle.tk_plan.proofs.TableDescriptors.{descriptors-length, statics-append, statics_length}
 use Rattle.tk_plan.proofs.Grows.{forest_nil}
+use Rattle.tk_ids.proofs.ParentIds.{parent_of-child}
 
 -- ---- numbers in preorder
 
@@ -78,9 +78,6 @@ either_part [] ys i x e = inr (i, omega arith, e)
 either_part (z ∷ xs) ys zero x e = inl e
 either_part (z ∷ xs) ys (suc i) x e = one_later (length xs) i xs ys x (either_part xs ys i x e)
 
-parent_of_child : (id : List SegmentView) (s : SegmentView) → parent_of (id ++ s ∷ []) ≡ id
-parent_of_child id s = ap (λ n. take n (id ++ s ∷ [])) (omega (arith, length-append id (s ∷ []))) ∙ take-append_seam id (s ∷ [])
-
 ids-append : (xs ys : List Descriptor) → ids_of (xs ++ ys) ≡ ids_of xs ++ ids_of ys
 ids-append [] ys = refl
 ids-append (x ∷ xs) ys = ap (λ l. x.id ∷ l) (ids-append xs ys)
@@ -117,7 +114,7 @@ module _ (table : List Descriptor) where
         id = id;
         its = ap (slice_get (ids_of table)) (omega arith) ∙ its;
         long = omega (arith, over.1, length-append above (n.segment ∷ []));
-        parent = ap (slice_get (ids_of table)) (sym same) ∙ over.0 ∙ ap (λ i. Some i) (sym (parent_of_child above n.segment));
+        parent = ap (slice_get (ids_of table)) (sym same) ∙ over.0 ∙ ap (λ i. Some i) (sym (parent_of-child above n.segment));
       }
   node_by true above a s k n f pre post next e h placed up (suc i) b g l =
       let id = above ++ n.segment ∷ [] in

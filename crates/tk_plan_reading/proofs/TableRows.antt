@@ -1,11 +1,10 @@
 -- The descriptors of a plan's static nodes, put into a table one after another.
-use Rattle.std.proofs.Common.{◌≡◌, ℕ, zero, suc, ◌+◌, ◌-◌, ◌⊎◌, inl, inr, List, [], ◌∷◌, ◌++◌, length, map, Bool, true, false, cond, ◌||◌, take, Some, None, slice_get, refl, sym, ap, ◌∙◌, subst, arith, append_assoc, append-nil, length-append}
+use Rattle.std.proofs.Common.{◌≡◌, ℕ, zero, suc, ◌+◌, ◌-◌, ◌⊎◌, inl, inr, List, [], ◌∷◌, ◌++◌, length, map, Bool, true, false, cond, ◌||◌, Some, None, slice_get, refl, sym, ap, ◌∙◌, subst, arith, append_assoc, append-nil, length-append}
 use Rattle.std.proofs.lemmas.List.{map-append}
-use Rattle.std.proofs.Math.Seq.{take-append_seam}
 use Rattle.std.specs.List.{list_any}
 use Rattle.std.proofs.lemmas.Bool.{true≢false}
 use Rattle.serde_json.specs.Data.{Data}
-use Rattle.tk_ids.specs.IdText.{SegmentView, parent_of}
+use Rattle.tk_ids.specs.IdText.{SegmentView}
 use Rattle.tk_ids.specs.Table.{ids_of, HasId, HasParent}
 use Rattle.tk_ids.specs.declared.descriptors.Descriptor.{Descriptor}
 use Rattle.tk_plan.specs.Trees.{Tree, tree, Forest, no_trees, more}
@@ -14,6 +13,7 @@ use Rattle.tk_plan_json.specs.Verdicts.{same_segment, verdict}
 use Rattle.tk_plan_json.specs.NodeInputs.{NodeInput, NodeArray, segment_in, below, node_inputs, node_inputs_in, children_of, children_in, dynamic_of, dynamic_in, grown, forest_of}
 use Rattle.tk_plan_reading.specs.steps.Tables.{Follow}
 use Rattle.tk_plan_json.proofs.Distinct.{segment_at, IsApart, AreApart, apart_grown, Among, among_split, among_at, Begins, begins_below, begins_in, same_next, same_self, any_left, any_right, longer}
+use Rattle.tk_ids.proofs.ParentIds.{parent_of-child}
 
 -- ---- a static node stands below a static one
 
@@ -120,14 +120,9 @@ Ready table above up = up ≡ true → (above ≡ []) ⊎ Held table above
 abbrev Fresh : List Descriptor → List SegmentView → List SegmentView → Type 0
 Fresh table above earlier = (id : List SegmentView) (s : SegmentView) → Held table id → Begins above s id → list_any (same_segment s) earlier ≡ true
 
-prefix_is : (above : List SegmentView) (s : SegmentView) → parent_of (above ++ s ∷ []) ≡ above
-prefix_is above s =
-    let count : length (above ++ s ∷ []) - 1 ≡ length above = omega (arith, length-append above (s ∷ [])) in
-    ap (λ n. take n (above ++ s ∷ [])) count ∙ take-append_seam above (s ∷ [])
-
 parent_held : (table : List Descriptor) (above : List SegmentView) (s : SegmentView) → (above ≡ []) ⊎ Held table above → HasParent table (above ++ s ∷ [])
 parent_held table above s (inl e) h = absurd (let n = ap length e in omega (arith, h, n, length-append above (s ∷ [])))
-parent_held table above s (inr a) h = subst (HasId table) (sym (prefix_is above s)) (at_among above (ids_of table) a)
+parent_held table above s (inr a) h = subst (HasId table) (sym (parent_of-child above s)) (at_among above (ids_of table) a)
 
 ready_later : (table ds : List Descriptor) (above : List SegmentView) (up : Bool) → Ready table above up → Ready (table ++ ds) above up
 ready_later table ds above up r e = by (r e)

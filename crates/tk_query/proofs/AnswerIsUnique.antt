@@ -1,7 +1,7 @@
 -- The same events and the same conditions have one answer.
 use Rattle.std.proofs.Common.{◌≡◌, ℕ, zero, suc, ◌+◌, ◌<◌, ◌≤◌, ◌⊎◌, Bool, List, [], ◌∷◌, length, take, Some, refl, sym, ap, ◌∙◌, subst, arith, inl, inr, ⊎_elim}
 use Rattle.std.specs.List.{slice_get, Contains, AllPairs}
-use Rattle.std.proofs.lemmas.Bool.{cases_lt, true≢false}
+use Rattle.std.proofs.lemmas.Bool.{true≢false}
 use Rattle.std.proofs.lemmas.Option.{same_Some, none-some}
 use Rattle.tk_events.specs.declared.events.Entry.{Entry}
 use Rattle.tk_record.specs.Recorded.{Recorded}

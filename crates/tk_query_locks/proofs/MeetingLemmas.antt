@@ -1,12 +1,11 @@
 -- Executions that meet are those that conflict and overlap.
-use Rattle.std.proofs.Common.{◌≡◌, ℕ, zero, suc, ◌<◌, ◌≤◌, Bool, true, false, ◌⊎◌, inl, inr, ⊎_elim, List, [], ◌∷◌, get_or, length, map, Option, Some, None, refl, sym, ap, ◌∙◌, subst, arith}
-use Rattle.std.specs.Prelude.{is_some, slice_get}
+use Rattle.std.proofs.Common.{◌≡◌, ℕ, ◌<◌, ◌≤◌, Bool, true, false, ◌⊎◌, inl, inr, ⊎_elim, List, get_or, length, map, Option, Some, None, refl, sym, ap, ◌∙◌, subst, arith}
+use Rattle.std.specs.Prelude.{is_some}
 use Rattle.std.specs.Option.{option_and_then}
 use Rattle.std.proofs.lemmas.Bool.{cases_lt, cases_order, false≢true}
 use Rattle.std.proofs.lemmas.List.{length-map}
 use Rattle.std.proofs.lemmas.Option.{same_Some, none-some}
 use Rattle.tk_ids.specs.declared.descriptors.Descriptor.{Descriptor}
-use Rattle.tk_events.specs.Event.{is_before}
 use Rattle.tk_events.specs.declared.events.Entry.{Entry}
 use Rattle.tk_record.specs.Entries.{desc}
 use Rattle.tk_record.specs.Recorded.{Recorded}
@@ -17,12 +16,11 @@ use Rattle.tk_query.specs.Executions.{IsSpan}
 use Rattle.tk_query.specs.steps.Holders.{AreFinishes}
 use Rattle.tk_query.proofs.AskedLemmas.{AreFlags}
 use Rattle.tk_query.proofs.SpanKeys.{span_key}
-use Rattle.tk_query_locks.specs.declared.answers.LockAnswer.{LockAnswer}
-use Rattle.tk_query_locks.specs.declared.answers.LockAnswer.TheVariants.{Yes, No, NoPair}
+use Rattle.tk_query_locks.specs.declared.answers.LockAnswer.TheVariants.{Yes, NoPair}
 use Rattle.tk_query_locks.specs.declared.holders.Holders.{Holders}
 use Rattle.tk_query_locks.specs.Conflicts.{ConflictOver, Uses, Writes}
 use Rattle.tk_query_locks.specs.LockAnswers.{Collide, CollideAt, Conflict, IsFirstCollision, IsLockAnswer, SomeConflict}
-use Rattle.tk_query_locks.specs.steps.Finishes.{AreEndless, IsEndlessAt}
+use Rattle.tk_query_locks.specs.steps.Finishes.{AreEndless}
 use Rattle.tk_query_locks.specs.steps.Positions.{descriptor_at, key_at}
 use Rattle.tk_query_locks.specs.steps.Holders.{ConflictAt, IsFirstMeeting, IsLeastAt, IsMeeting, Meet, MeetsNone, finish_of}
 use Rattle.tk_query_locks.proofs.DescentLemmas.{apart_swap, not_apart_itself}

@@ -1,10 +1,10 @@
 -- The descriptors that have a child, and the texts of their ids.
-use Rattle.std.proofs.Common.{◌≡◌, ℕ, zero, suc, ◌+◌, ◌-◌, ◌<◌, ◌≤◌, ◌⊎◌, inl, inr, ⊎_elim, Bool, true, false, cond, ◌&&◌, List, [], ◌∷◌, ◌++◌, length, take, get_or, Option, Some, None, nat_eq, refl, sym, ap, ◌∙◌, subst, arith, eqb-true}
+use Rattle.std.proofs.Common.{◌≡◌, ℕ, zero, suc, ◌+◌, ◌-◌, ◌<◌, ◌≤◌, ◌⊎◌, inl, inr, ⊎_elim, Bool, true, false, cond, ◌&&◌, List, [], ◌∷◌, ◌++◌, length, get_or, Option, Some, None, nat_eq, refl, sym, ap, ◌∙◌, subst, arith, eqb-true}
 use Rattle.std.specs.Prelude.{◌==◌, if◌then◌else◌, slice_get}
 use Rattle.std.specs.Option.{option_or}
 use Rattle.std.specs.Cmp.Lexicographic.{bytes_decides, pointwise}
 use Rattle.std.proofs.lemmas.Bool.{cases_lt, true≢false}
-use Rattle.std.proofs.lemmas.List.{take_more, take_all, take_at, length-append}
+use Rattle.std.proofs.lemmas.List.{take_more, take_all, length-append}
 use Rattle.std.proofs.lemmas.Option.{same_Some, none-some}
 use Rattle.tk_ids.specs.IdText.{SegmentView, IsId, id_text, parent_of}
 use Rattle.tk_ids.specs.declared.descriptors.Descriptor.{Descriptor}
@@ -24,6 +24,7 @@ use Rattle.tk_query_locks.specs.Conflicts.{HasChild, Writes}
 use Rattle.tk_query_locks.specs.declared.parents.Parents.{Parents}
 use Rattle.tk_query_locks.specs.steps.Parents.{AreParents, AreParentsOnly, HasChildUnder, HasParentOf, IsParentText, IsUnwritten, has_text}
 use Rattle.tk_query.proofs.AnswerIsUnique.{within_list}
+use Rattle.tk_ids.proofs.ParentIds.{parent_of-child}
 
 -- an entry registers the descriptor under the key
 pub record IsRegistered (es : List Entry) (key : ℕ) (d : Descriptor) : Type 0 where
@@ -75,12 +76,6 @@ static_or_registered r key d is = by (slice_get r.table key) refl is
     by (Some x) here some = inl (here ∙ some)
     by None here some = inr (registered_by r.entries key d some)
 
--- the id above one with one segment more
-parent_of_more : (id : List SegmentView) (s : SegmentView) → parent_of (id ++ s ∷ []) ≡ id
-parent_of_more id s =
-    let size = length-append id (s ∷ []) in
-    take_at id (s ∷ []) (length (id ++ s ∷ []) - 1) (omega (arith, size))
-
 -- an id of more than one segment is the one above it and a segment more
 more_than_parent : (id : List SegmentView) (d : SegmentView) → 1 < length id → id ≡ parent_of id ++ get_or id (length id - 1) d ∷ []
 more_than_parent id d more =
@@ -103,7 +98,7 @@ module _ (r : Recorded) (parents : Parents) (are : AreParents r parents) (id : L
 
   pub text_from_child : HasChild r id → has_text parents (id_text id) ≡ true
   text_from_child has =
-      let above : parent_of has.child.id ≡ id = ap parent_of has.below ∙ parent_of_more id has.segment in
+      let above : parent_of has.child.id ≡ id = ap parent_of has.below ∙ parent_of-child id has.segment in
       let size : length has.child.id ≡ length id + 1 = ap length has.below ∙ length-append id (has.segment ∷ []) in
       let some = is_id.0 in
       are.each has.key (id_text id) has.child has.described (record {
