@@ -1,37 +1,11 @@
 -- What the words of a command line ask for.
-use Rattle.std.specs.Prelude.{
-  ◌≡◌,
-  ℕ,
-  ◌^◌,
-  List,
-  ◌∷◌,
-  codes,
-  map,
-  string_bytes,
-  Option,
-  Some,
-  None,
-  Result,
-  Ok,
-  Err,
-  true,
-  if◌then◌else◌,
-}
+use Rattle.std.specs.Prelude.{◌≡◌, ℕ, ◌^◌, List, ◌∷◌, codes, map, string_bytes, Option, Some, None}
+use Rattle.std.specs.Prelude.{Result, Ok, Err, true, if◌then◌else◌}
 use Rattle.std.specs.Str.{bytes_eq}
 use Rattle.clap.specs.Simple.{on_top}
 use Rattle.clap.specs.Walk.{is_empty}
-use Rattle.clap.specs.Words.{
-  App,
-  Row,
-  Rule,
-  fault_of,
-  first_of,
-  new_app,
-  new_rule,
-  subcommand_of,
-  with_rule,
-  with_subcommand,
-}
+use Rattle.clap.specs.Words.{App, Row, Rule, fault_of, first_of, new_app, new_rule, subcommand_of}
+use Rattle.clap.specs.Words.{with_rule, with_subcommand}
 use Rattle.clap.specs.declared.builder.action.ArgAction.TheVariants.{Set, SetTrue}
 use Rattle.tk_record_text.specs.Reading.{number_of}
 use Rattle.testkit_command_line.specs.declared.jobs.Job.{Job}

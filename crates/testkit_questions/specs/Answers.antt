@@ -1,31 +1,12 @@
 -- The answers to questions, as text.
-use Rattle.std.specs.Prelude.{
-  ◌≡◌,
-  ℕ,
-  Bool,
-  true,
-  false,
-  ◌&&◌,
-  List,
-  [],
-  ◌∷◌,
-  ◌++◌,
-  count_by,
-  length,
-  ◌==◌,
-}
+use Rattle.std.specs.Prelude.{◌≡◌, ℕ, Bool, true, false, ◌&&◌, List, [], ◌∷◌, ◌++◌, count_by}
+use Rattle.std.specs.Prelude.{length, ◌==◌}
 use Rattle.std.specs.List.{flat_map, list_all}
 use Rattle.std.specs.Fmt.{decimal}
 use Rattle.tk_record.specs.declared.selections.Selection.{Selection}
 use Rattle.tk_record.specs.declared.statistics.Mismatch.{Mismatch}
 use Rattle.tk_record.specs.Recorded.{Recorded}
-use Rattle.tk_record.specs.Selections.{
-  Selected,
-  all_of,
-  events_of,
-  filtered_by,
-  selects,
-}
+use Rattle.tk_record.specs.Selections.{Selected, all_of, events_of, filtered_by, selects}
 use Rattle.tk_record.specs.Statistics.{statistics_of, mismatches}
 use Rattle.tk_record.specs.StatisticTexts.{statistics_text}
 use Rattle.tk_record_text.specs.EventLists.{event_list}
@@ -36,17 +17,9 @@ use Rattle.tk_query.specs.declared.answers.Exclusive.{Exclusive}
 use Rattle.tk_query.specs.declared.answers.Loose.{Loose}
 use Rattle.tk_query.specs.declared.answers.InOrder.{InOrder}
 use Rattle.tk_query.specs.declared.execution.Execution.{Execution}
-use Rattle.tk_query.specs.AnswerTexts.{
-  ending_name,
-  exact_text,
-  exact_yes,
-  exclusive_text,
-  exclusive_yes,
-  in_order_text,
-  in_order_yes,
-  loose_text,
-  loose_yes,
-}
+use Rattle.tk_query.specs.AnswerTexts.{ending_name, exact_text, exact_yes, exclusive_text}
+use Rattle.tk_query.specs.AnswerTexts.{exclusive_yes, in_order_text, in_order_yes, loose_text}
+use Rattle.tk_query.specs.AnswerTexts.{loose_yes}
 use Rattle.tk_query.specs.Exclusive.{IsExclusive}
 use Rattle.tk_query.specs.ExecutionSteps.{step_at}
 use Rattle.tk_query.specs.Executions.{AreExecutions}
@@ -54,11 +27,8 @@ use Rattle.tk_query.specs.Holds.{holds}
 use Rattle.tk_query.specs.Matches.{IsExact, IsLoose, IsInOrder}
 use Rattle.testkit_questions.specs.Characters.{blank, line_feed}
 use Rattle.testkit_questions.specs.declared.questions.Mode.{Mode}
-use Rattle.testkit_questions.specs.declared.questions.Mode.TheVariants.{
-  Exactly,
-  Loosely,
-  InOrder as InTheirOrder,
-}
+use Rattle.testkit_questions.specs.declared.questions.Mode.TheVariants.{Exactly, Loosely}
+use Rattle.testkit_questions.specs.declared.questions.Mode.TheVariants.{InOrder as InTheirOrder}
 use Rattle.tk_query_lifecycle.specs.declared.lifecycle_rules.Lifecycle.{Lifecycle}
 use Rattle.tk_query_lifecycle.specs.declared.lifecycle_rules.Lifecycle.TheVariants as lifecycles
 use Rattle.tk_query_lifecycle.specs.Lifecycle.{IsLifecycle}
@@ -68,17 +38,13 @@ use Rattle.tk_query_locks.specs.LockAnswers.{IsLockAnswer}
 use Rattle.tk_query_locks.specs.declared.answers.LockAnswer.{LockAnswer}
 use Rattle.tk_report_text.specs.Reports.{report_of_record}
 use Rattle.testkit_questions.specs.declared.questions.Question.{Question}
-use Rattle.testkit_questions.specs.declared.questions.Question.TheVariants.{
-  Stats,
-  Count,
-  Match,
-  List as Listed,
-  Exclusive as OfHolders,
-  Executions,
-  Lifecycle as OfLifecycle,
-  Locks as OfLocks,
-  Report,
-}
+use Rattle.testkit_questions.specs.declared.questions.Question.TheVariants.{Stats, Count, Match}
+use Rattle.testkit_questions.specs.declared.questions.Question.TheVariants.{List as Listed}
+use Rattle.testkit_questions.specs.declared.questions.Question.TheVariants.{Exclusive as OfHolders}
+use Rattle.testkit_questions.specs.declared.questions.Question.TheVariants.{Executions}
+use Rattle.testkit_questions.specs.declared.questions.Question.TheVariants.{Lifecycle as OfLifecycle}
+use Rattle.testkit_questions.specs.declared.questions.Question.TheVariants.{Locks as OfLocks}
+use Rattle.testkit_questions.specs.declared.questions.Question.TheVariants.{Report}
 
 -- a statistic that differs from what was expected of it
 abbrev pub mismatch_line : Mismatch → List ℕ

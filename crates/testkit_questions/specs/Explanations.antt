@@ -12,15 +12,10 @@ use Rattle.tk_explanations.specs.Statistics.{ExplainsStatistics}
 use Rattle.testkit_questions.specs.declared.questions.Mode.{Mode}
 use Rattle.testkit_questions.specs.declared.questions.Mode.TheVariants.{Exactly, Loosely, InOrder}
 use Rattle.testkit_questions.specs.declared.questions.Question.{Question}
-use Rattle.testkit_questions.specs.declared.questions.Question.TheVariants.{
-  Stats,
-  Match,
-  List as Listed,
-  Exclusive,
-  Executions,
-  Lifecycle,
-  Locks,
-}
+use Rattle.testkit_questions.specs.declared.questions.Question.TheVariants.{Stats, Match}
+use Rattle.testkit_questions.specs.declared.questions.Question.TheVariants.{List as Listed}
+use Rattle.testkit_questions.specs.declared.questions.Question.TheVariants.{Exclusive, Executions}
+use Rattle.testkit_questions.specs.declared.questions.Question.TheVariants.{Lifecycle, Locks}
 use Rattle.testkit_questions.specs.declared.questions.Request.{Request}
 use Rattle.testkit_questions.specs.Answers.{IsAnswerTo, events_where, picked}
 

@@ -1,31 +1,7 @@
 -- Which words ask which question, and which words are bad.
-use Rattle.std.specs.Prelude.{
-  ◌≡◌,
-  ◌≢◌,
-  ℕ,
-  ◌+◌,
-  ◌<◌,
-  ◌≤◌,
-  ◌^◌,
-  ◌⊎◌,
-  List,
-  [],
-  ◌∷◌,
-  ◌++◌,
-  take,
-  codes,
-  Option,
-  Some,
-  None,
-  Result,
-  Ok,
-  Err,
-  is_none,
-  ◌&&◌,
-  if◌then◌else◌,
-  length,
-  Vec,
-}
+use Rattle.std.specs.Prelude.{◌≡◌, ◌≢◌, ℕ, ◌+◌, ◌<◌, ◌≤◌, ◌^◌, ◌⊎◌, List, [], ◌∷◌, ◌++◌, take}
+use Rattle.std.specs.Prelude.{codes, Option, Some, None, Result, Ok, Err, is_none, ◌&&◌}
+use Rattle.std.specs.Prelude.{if◌then◌else◌, length, Vec}
 use Rattle.std.specs.Global.{Global}
 use Rattle.std.specs.List.{slice_get}
 use Rattle.std.specs.Fmt.{decimal}
@@ -39,12 +15,7 @@ use Rattle.tk_record.specs.declared.selections.Selection.{Selection}
 use Rattle.tk_record.specs.declared.selections.Selection.TheVariants.{All}
 use Rattle.tk_record.specs.declared.statistics.Expected.{Expected}
 use Rattle.tk_record.specs.Selections.{selection_name}
-use Rattle.tk_record.specs.Statistics.{
-  nothing_expected,
-  expected_of,
-  with_expected,
-  is_counted,
-}
+use Rattle.tk_record.specs.Statistics.{nothing_expected, expected_of, with_expected, is_counted}
 use Rattle.testkit_questions.specs.Characters.{equals_sign}
 use Rattle.testkit_questions.specs.declared.faults.AskFault.{AskFault}
 use Rattle.testkit_questions.specs.declared.faults.AskFault.TheVariants as faults

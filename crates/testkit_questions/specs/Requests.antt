@@ -6,13 +6,8 @@ use Rattle.testkit_questions.specs.declared.faults.AskFault.TheVariants as fault
 use Rattle.testkit_questions.specs.declared.questions.QuestionName.{QuestionName}
 use Rattle.testkit_questions.specs.declared.questions.QuestionName.TheVariants as names
 use Rattle.testkit_questions.specs.declared.questions.Request.{Request}
-use Rattle.testkit_questions.specs.Questions.{
-  Begins,
-  IsAskedAs,
-  IsReadAfter,
-  Reading,
-  question_word,
-}
+use Rattle.testkit_questions.specs.Questions.{Begins, IsAskedAs, IsReadAfter, Reading}
+use Rattle.testkit_questions.specs.Questions.{question_word}
 
 abbrev pub explain_word : List ℕ
 explain_word = codes "explain"

@@ -12,12 +12,8 @@ use Rattle.tk_report_text.specs.Reports.{report_of_record}
 use Rattle.testkit_questions.specs.Answers.{picked}
 use Rattle.testkit_questions.specs.Characters.{blank}
 use Rattle.testkit_questions.specs.Conditions.{IsConditionsFault}
-use Rattle.testkit_questions.specs.Questions.{
-  AreConditions,
-  AreHolders,
-  Expecting,
-  IsBadExpectation,
-}
+use Rattle.testkit_questions.specs.Questions.{AreConditions, AreHolders, Expecting}
+use Rattle.testkit_questions.specs.Questions.{IsBadExpectation}
 use Rattle.tk_expectations.specs.declared.expectations.Expect.{Expect}
 use Rattle.tk_expectations.specs.declared.failures.Failure.{Failure}
 use Rattle.tk_expectations.specs.declared.failures.Failure.TheVariants as failures

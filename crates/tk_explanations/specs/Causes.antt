@@ -5,35 +5,20 @@ use Rattle.tk_ids.specs.IdText.{id_text, parent_of}
 use Rattle.tk_ids.specs.declared.descriptors.Descriptor.{Descriptor}
 use Rattle.tk_record.specs.Recorded.{Recorded}
 use Rattle.tk_query_lifecycle.specs.declared.lifecycle_rules.LifecycleRule.{LifecycleRule}
-use Rattle.tk_query_lifecycle.specs.declared.lifecycle_rules.LifecycleRule.TheVariants.{
-  IdKnown,
-  ParentUnknown,
-  ParentNotRunning,
-  RanAlready,
-  NotRunning,
-  ChildRunning,
-}
-use Rattle.tk_explanations.specs.EventSearches.{
-  begins,
-  first_before,
-  last_before,
-  registers_id,
-  starts_child,
-  steps,
-}
+use Rattle.tk_query_lifecycle.specs.declared.lifecycle_rules.LifecycleRule.TheVariants.{IdKnown}
+use Rattle.tk_query_lifecycle.specs.declared.lifecycle_rules.LifecycleRule.TheVariants.{ParentUnknown}
+use Rattle.tk_query_lifecycle.specs.declared.lifecycle_rules.LifecycleRule.TheVariants.{ParentNotRunning}
+use Rattle.tk_query_lifecycle.specs.declared.lifecycle_rules.LifecycleRule.TheVariants.{RanAlready}
+use Rattle.tk_query_lifecycle.specs.declared.lifecycle_rules.LifecycleRule.TheVariants.{NotRunning}
+use Rattle.tk_query_lifecycle.specs.declared.lifecycle_rules.LifecycleRule.TheVariants.{ChildRunning}
+use Rattle.tk_explanations.specs.EventSearches.{begins, first_before, last_before, registers_id}
+use Rattle.tk_explanations.specs.EventSearches.{starts_child, steps}
 use Rattle.tk_explanations.specs.declared.sentences.EventAt.{EventAt}
 use Rattle.tk_explanations.specs.declared.sentences.Cause.{Cause}
-use Rattle.tk_explanations.specs.declared.sentences.Cause.TheVariants.{
-  StaticId,
-  RegisteredId,
-  UnknownParent,
-  ParentStep,
-  ParentIdle,
-  OwnStep,
-  Idle,
-  ChildRan,
-  Rule,
-}
+use Rattle.tk_explanations.specs.declared.sentences.Cause.TheVariants.{StaticId, RegisteredId}
+use Rattle.tk_explanations.specs.declared.sentences.Cause.TheVariants.{UnknownParent, ParentStep}
+use Rattle.tk_explanations.specs.declared.sentences.Cause.TheVariants.{ParentIdle, OwnStep, Idle}
+use Rattle.tk_explanations.specs.declared.sentences.Cause.TheVariants.{ChildRan, Rule}
 
 -- the least key of a static descriptor whose id has this text
 abbrev pub static_key : Recorded → List ℕ → Option ℕ

@@ -1,21 +1,6 @@
 -- The explanation of whether a record keeps the lifecycle.
-use Rattle.std.specs.Prelude.{
-  ◌≡◌,
-  ℕ,
-  Bool,
-  true,
-  false,
-  List,
-  [],
-  ◌∷◌,
-  ◌++◌,
-  length,
-  Option,
-  Some,
-  None,
-  option_map,
-  slice_get,
-}
+use Rattle.std.specs.Prelude.{◌≡◌, ℕ, Bool, true, false, List, [], ◌∷◌, ◌++◌, length, Option, Some}
+use Rattle.std.specs.Prelude.{None, option_map, slice_get}
 use Rattle.tk_ids.specs.declared.descriptors.Descriptor.{Descriptor}
 use Rattle.tk_events.specs.declared.kinds.Kind.TheVariants.{Started}
 use Rattle.tk_record.specs.Entries.{desc}
@@ -30,17 +15,10 @@ use Rattle.tk_explanations.specs.EventSearches.{event_at, first_before, last_bef
 use Rattle.tk_explanations.specs.Rows.{AsText}
 use Rattle.tk_explanations.specs.declared.sentences.EventAt.{EventAt}
 use Rattle.tk_explanations.specs.declared.sentences.Cause.{Cause}
-use Rattle.tk_explanations.specs.declared.sentences.Cause.TheVariants.{
-  RegisteredId,
-  ParentStep,
-  OwnStep,
-  ChildRan,
-}
-use Rattle.tk_explanations.specs.declared.sentences.Sentence.TheVariants.{
-  Breaks,
-  NeverFinished,
-  NeverRan,
-}
+use Rattle.tk_explanations.specs.declared.sentences.Cause.TheVariants.{RegisteredId, ParentStep}
+use Rattle.tk_explanations.specs.declared.sentences.Cause.TheVariants.{OwnStep, ChildRan}
+use Rattle.tk_explanations.specs.declared.sentences.Sentence.TheVariants.{Breaks, NeverFinished}
+use Rattle.tk_explanations.specs.declared.sentences.Sentence.TheVariants.{NeverRan}
 use Rattle.tk_explanations.specs.declared.rows.Note.TheVariants.{Nothing}
 use Rattle.tk_explanations.specs.declared.rows.Row.{Row}
 use Rattle.tk_explanations.specs.declared.rows.Row.TheVariants.{Line, Event, Sentence}

@@ -1,35 +1,13 @@
 -- The explanations of matches.
-use Rattle.std.specs.Prelude.{
-  ◌≡◌,
-  ℕ,
-  ◌+◌,
-  Bool,
-  true,
-  if◌then◌else◌,
-  List,
-  [],
-  ◌∷◌,
-  ◌++◌,
-  length,
-  take,
-  Option,
-  Some,
-  None,
-  slice_get,
-}
+use Rattle.std.specs.Prelude.{◌≡◌, ℕ, ◌+◌, Bool, true, if◌then◌else◌, List, [], ◌∷◌, ◌++◌, length}
+use Rattle.std.specs.Prelude.{take, Option, Some, None, slice_get}
 use Rattle.std.specs.List.{last_or}
 use Rattle.tk_record.specs.Recorded.{Recorded}
 use Rattle.tk_record.specs.Selections.{PositionedEntry, Selected, positions_of}
 use Rattle.tk_query_conditions.specs.CondOf.{cond_of}
 use Rattle.tk_query_conditions.specs.declared.conditions.Condition.{Condition}
-use Rattle.tk_query.specs.AnswerTexts.{
-  exact_text,
-  exact_yes,
-  in_order_text,
-  in_order_yes,
-  loose_text,
-  loose_yes,
-}
+use Rattle.tk_query.specs.AnswerTexts.{exact_text, exact_yes, in_order_text, in_order_yes}
+use Rattle.tk_query.specs.AnswerTexts.{loose_text, loose_yes}
 use Rattle.tk_query.specs.Asked.{fits}
 use Rattle.tk_query.specs.Holds.{holds}
 use Rattle.tk_query.specs.InOrder.{HasNoFit, IsLeastInTurn, IsNextFit}

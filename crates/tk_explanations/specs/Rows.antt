@@ -1,18 +1,6 @@
 -- The rows of explanations, as text.
-use Rattle.std.specs.Prelude.{
-  ◌≡◌,
-  ℕ,
-  Bool,
-  List,
-  [],
-  ◌∷◌,
-  ◌++◌,
-  codes,
-  Option,
-  Some,
-  None,
-  slice_get,
-}
+use Rattle.std.specs.Prelude.{◌≡◌, ℕ, Bool, List, [], ◌∷◌, ◌++◌, codes, Option, Some, None}
+use Rattle.std.specs.Prelude.{slice_get}
 use Rattle.std.specs.List.{flat_map}
 use Rattle.std.specs.Fmt.{decimal}
 use Rattle.tk_events.specs.declared.events.Entry.{Entry}
@@ -27,18 +15,9 @@ use Rattle.tk_explanations.specs.Sentences.{sentence_text}
 use Rattle.tk_explanations.specs.declared.rows.Note.{Note}
 use Rattle.tk_explanations.specs.declared.rows.Note.TheVariants.{Nothing, Lacks, NotAfter}
 use Rattle.tk_explanations.specs.declared.rows.Row.{Row}
-use Rattle.tk_explanations.specs.declared.rows.Row.TheVariants.{
-  Line,
-  Condition,
-  Event,
-  NoneLeft,
-  Counts,
-  Overlap,
-  OverlapOver,
-  Executions,
-  More,
-  Sentence,
-}
+use Rattle.tk_explanations.specs.declared.rows.Row.TheVariants.{Line, Condition, Event, NoneLeft}
+use Rattle.tk_explanations.specs.declared.rows.Row.TheVariants.{Counts, Overlap, OverlapOver}
+use Rattle.tk_explanations.specs.declared.rows.Row.TheVariants.{Executions, More, Sentence}
 use Rattle.tk_explanations.specs.declared.rows.Writers.{Writers}
 use Rattle.tk_explanations.specs.declared.rows.Writers.TheVariants.{Unsaid, First, Second, Both}
 

@@ -2,14 +2,8 @@
 use Rattle.std.specs.Prelude.{ℕ, List, [], ◌++◌, codes, Option, Some, None}
 use Rattle.std.specs.Fmt.{decimal}
 use Rattle.tk_events.specs.declared.kinds.Kind.{Kind}
-use Rattle.tk_events.specs.declared.kinds.Kind.TheVariants.{
-  Dynamic,
-  Skipped,
-  Started,
-  Finished,
-  Reporting,
-  File,
-}
+use Rattle.tk_events.specs.declared.kinds.Kind.TheVariants.{Dynamic, Skipped, Started, Finished}
+use Rattle.tk_events.specs.declared.kinds.Kind.TheVariants.{Reporting, File}
 use Rattle.tk_events.specs.Fields.{field_text}
 use Rattle.tk_record.specs.Entries.{desc}
 use Rattle.tk_record.specs.Recorded.{Recorded}
@@ -17,23 +11,13 @@ use Rattle.tk_query_lifecycle.specs.LifecycleTexts.{rule_text}
 use Rattle.tk_explanations.specs.DescriptorTexts.{descriptor_text, quoted_name}
 use Rattle.tk_explanations.specs.declared.sentences.EventAt.{EventAt}
 use Rattle.tk_explanations.specs.declared.sentences.Cause.{Cause}
-use Rattle.tk_explanations.specs.declared.sentences.Cause.TheVariants.{
-  StaticId,
-  RegisteredId,
-  UnknownParent,
-  ParentStep,
-  ParentIdle,
-  OwnStep,
-  Idle,
-  ChildRan,
-  Rule,
-}
+use Rattle.tk_explanations.specs.declared.sentences.Cause.TheVariants.{StaticId, RegisteredId}
+use Rattle.tk_explanations.specs.declared.sentences.Cause.TheVariants.{UnknownParent, ParentStep}
+use Rattle.tk_explanations.specs.declared.sentences.Cause.TheVariants.{ParentIdle, OwnStep, Idle}
+use Rattle.tk_explanations.specs.declared.sentences.Cause.TheVariants.{ChildRan, Rule}
 use Rattle.tk_explanations.specs.declared.sentences.Sentence.{Sentence}
-use Rattle.tk_explanations.specs.declared.sentences.Sentence.TheVariants.{
-  Breaks,
-  NeverFinished,
-  NeverRan,
-}
+use Rattle.tk_explanations.specs.declared.sentences.Sentence.TheVariants.{Breaks, NeverFinished}
+use Rattle.tk_explanations.specs.declared.sentences.Sentence.TheVariants.{NeverRan}
 
 -- what an event of the kind did, said of its descriptor
 abbrev pub phrase : Kind → List ℕ

@@ -1,28 +1,8 @@
 -- The explanation of statistics, of which numbers are expected.
-use Rattle.std.specs.Prelude.{
-  ◌≡◌,
-  ℕ,
-  zero,
-  suc,
-  Bool,
-  List,
-  [],
-  ◌∷◌,
-  ◌++◌,
-  codes,
-  drop,
-  length,
-  take,
-  ◌==◌,
-}
+use Rattle.std.specs.Prelude.{◌≡◌, ℕ, zero, suc, Bool, List, [], ◌∷◌, ◌++◌, codes, drop, length}
+use Rattle.std.specs.Prelude.{take, ◌==◌}
 use Rattle.std.specs.List.{flat_map}
-use Rattle.tk_record.specs.Selections.{
-  Selected,
-  events_of,
-  filtered_by,
-  positions_of,
-  selects,
-}
+use Rattle.tk_record.specs.Selections.{Selected, events_of, filtered_by, positions_of, selects}
 use Rattle.tk_record.specs.Statistics.{mismatches, statistics_of}
 use Rattle.tk_record.specs.declared.statistics.Expected.{Expected}
 use Rattle.tk_record.specs.declared.statistics.Mismatch.{Mismatch}

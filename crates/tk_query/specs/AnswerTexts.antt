@@ -11,12 +11,8 @@ use Rattle.tk_query.specs.declared.answers.InOrder.TheVariants as in_order
 use Rattle.tk_query.specs.declared.answers.Loose.{Loose}
 use Rattle.tk_query.specs.declared.answers.Loose.TheVariants as loose
 use Rattle.tk_query.specs.declared.execution.Ending.{Ending}
-use Rattle.tk_query.specs.declared.execution.Ending.TheVariants.{
-  Skipped,
-  Aborted,
-  Successful,
-  Failed,
-}
+use Rattle.tk_query.specs.declared.execution.Ending.TheVariants.{Skipped, Aborted, Successful}
+use Rattle.tk_query.specs.declared.execution.Ending.TheVariants.{Failed}
 
 -- one blank
 abbrev pub blank : ℕ

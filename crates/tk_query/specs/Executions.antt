@@ -2,12 +2,8 @@
 use Rattle.std.specs.Prelude.{◌≡◌, ◌≢◌, ℕ, Bool, not, ◌==◌, ◌<◌, ◌↔◌, ◌⊎◌, List, Option, Some}
 use Rattle.std.specs.List.{Contains, AllPairs}
 use Rattle.tk_query.specs.declared.execution.Ending.{Ending}
-use Rattle.tk_query.specs.declared.execution.Ending.TheVariants.{
-  Skipped,
-  Aborted,
-  Successful,
-  Failed,
-}
+use Rattle.tk_query.specs.declared.execution.Ending.TheVariants.{Skipped, Aborted, Successful}
+use Rattle.tk_query.specs.declared.execution.Ending.TheVariants.{Failed}
 use Rattle.tk_query.specs.declared.execution.Execution.{Execution}
 use Rattle.tk_query.specs.declared.execution_steps.Transition.TheVariants.{Starts, Skips, Ends}
 use Rattle.tk_query.specs.declared.execution_steps.ExecutionStep.{ExecutionStep}

@@ -1,22 +1,6 @@
 -- What a condition says of an event of a record.
-use Rattle.std.specs.Prelude.{
-  ℕ,
-  Bool,
-  true,
-  false,
-  not,
-  ◌&&◌,
-  ◌||◌,
-  List,
-  [],
-  ◌∷◌,
-  ◌++◌,
-  Option,
-  Some,
-  None,
-  bytes_eq,
-  codes,
-}
+use Rattle.std.specs.Prelude.{ℕ, Bool, true, false, not, ◌&&◌, ◌||◌, List, [], ◌∷◌, ◌++◌, Option}
+use Rattle.std.specs.Prelude.{Some, None, bytes_eq, codes}
 use Rattle.std.specs.List.{list_any, list_all}
 use Rattle.tk_ids.specs.IdText.{SegmentView, id_text}
 use Rattle.tk_ids.specs.declared.descriptors.Descriptor.{Descriptor}
@@ -29,39 +13,11 @@ use Rattle.tk_ids.specs.DTypes.{is_test, is_container}
 use Rattle.tk_record.specs.Entries.{of_kind, of_status, desc}
 use Rattle.tk_record.specs.Recorded.{Recorded}
 use Rattle.tk_record.specs.Selections.{has_type}
-use Rattle.tk_query_conditions.specs.Cond.{
-  Bare,
-  Test,
-  Container,
-  Engine,
-  Started,
-  Succeeded,
-  Failed,
-  Aborted,
-  TextAtom,
-  Id,
-  Name,
-  Skipped,
-  FailedWith,
-  AbortedWith,
-  Message,
-  File,
-  Pairs,
-  NoPairs,
-  MorePairs,
-  Cond,
-  Plain,
-  With,
-  OfKind,
-  HasSegment,
-  HasPairs,
-  All,
-  Any,
-  Not,
-  Conds,
-  Nothing,
-  More,
-}
+use Rattle.tk_query_conditions.specs.Cond.{Bare, Test, Container, Engine, Started, Succeeded}
+use Rattle.tk_query_conditions.specs.Cond.{Failed, Aborted, TextAtom, Id, Name, Skipped, FailedWith}
+use Rattle.tk_query_conditions.specs.Cond.{AbortedWith, Message, File, Pairs, NoPairs, MorePairs}
+use Rattle.tk_query_conditions.specs.Cond.{Cond, Plain, With, OfKind, HasSegment, HasPairs, All}
+use Rattle.tk_query_conditions.specs.Cond.{Any, Not, Conds, Nothing, More}
 use Rattle.tk_query_conditions.specs.CondOf.{cond_of}
 use Rattle.tk_query_conditions.specs.Reading.{begins_with}
 use Rattle.tk_query_conditions.specs.declared.conditions.Condition.{Condition}

@@ -1,20 +1,6 @@
 -- Positions at which a list of conditions holds in turn. `fits c p` says that c holds at p.
-use Rattle.std.specs.Prelude.{
-  ◌≡◌,
-  ℕ,
-  ◌+◌,
-  ◌<◌,
-  ◌≤◌,
-  ◌⊎◌,
-  Bool,
-  true,
-  false,
-  List,
-  [],
-  ◌∷◌,
-  length,
-  take,
-}
+use Rattle.std.specs.Prelude.{◌≡◌, ℕ, ◌+◌, ◌<◌, ◌≤◌, ◌⊎◌, Bool, true, false, List, [], ◌∷◌, length}
+use Rattle.std.specs.Prelude.{take}
 
 module _ {C : Type 0} (fits : C → ℕ → Bool) where
   -- the conditions hold in turn at these positions, which strictly increase from `from` on

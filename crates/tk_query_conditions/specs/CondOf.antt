@@ -1,46 +1,15 @@
 -- The condition that a value of the program is.
 use Rattle.std.specs.Prelude.{ℕ, List, [], ◌∷◌, Some, None}
 use Rattle.tk_query_conditions.specs.declared.conditions.Condition as real
-use Rattle.tk_query_conditions.specs.declared.conditions.Condition.{
-  Condition,
-  All',
-  Any',
-  Not',
-  Row_of-Condition,
-  end_of-Condition,
-  more_of-Condition,
-}
-use Rattle.tk_query_conditions.specs.Cond.{
-  Test,
-  Container,
-  Engine,
-  Started,
-  Succeeded,
-  Failed,
-  Aborted,
-  Id,
-  Name,
-  Skipped,
-  FailedWith,
-  AbortedWith,
-  Message,
-  File,
-  Pairs,
-  NoPairs,
-  MorePairs,
-  Cond,
-  Plain,
-  With,
-  OfKind,
-  HasSegment,
-  HasPairs,
-  All,
-  Any,
-  Not,
-  Conds,
-  Nothing,
-  More,
-}
+use Rattle.tk_query_conditions.specs.declared.conditions.Condition.{Condition, All', Any', Not'}
+use Rattle.tk_query_conditions.specs.declared.conditions.Condition.{Row_of-Condition}
+use Rattle.tk_query_conditions.specs.declared.conditions.Condition.{end_of-Condition}
+use Rattle.tk_query_conditions.specs.declared.conditions.Condition.{more_of-Condition}
+use Rattle.tk_query_conditions.specs.Cond.{Test, Container, Engine, Started, Succeeded, Failed}
+use Rattle.tk_query_conditions.specs.Cond.{Aborted, Id, Name, Skipped, FailedWith, AbortedWith}
+use Rattle.tk_query_conditions.specs.Cond.{Message, File, Pairs, NoPairs, MorePairs, Cond, Plain}
+use Rattle.tk_query_conditions.specs.Cond.{With, OfKind, HasSegment, HasPairs, All, Any, Not, Conds}
+use Rattle.tk_query_conditions.specs.Cond.{Nothing, More}
 
 -- pairs, after others
 abbrev pub pairs_from : Pairs → List (List ℕ × List ℕ) → Pairs

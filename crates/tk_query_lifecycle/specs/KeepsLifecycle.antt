@@ -1,21 +1,6 @@
 -- A record that keeps the lifecycle, by its events alone.
-use Rattle.std.specs.Prelude.{
-  ◌≡◌,
-  ℕ,
-  ◌<◌,
-  Bool,
-  ◌&&◌,
-  ◌||◌,
-  ◌==◌,
-  true,
-  if◌then◌else◌,
-  List,
-  [],
-  ◌∷◌,
-  length,
-  Some,
-  slice_get,
-}
+use Rattle.std.specs.Prelude.{◌≡◌, ℕ, ◌<◌, Bool, ◌&&◌, ◌||◌, ◌==◌, true, if◌then◌else◌, List, []}
+use Rattle.std.specs.Prelude.{◌∷◌, length, Some, slice_get}
 use Rattle.tk_ids.specs.IdText.{SegmentView, parent_of}
 use Rattle.tk_events.specs.declared.kinds.Kind.{Kind}
 use Rattle.tk_events.specs.declared.kinds.Kind.TheVariants.{Skipped, Started, Finished}

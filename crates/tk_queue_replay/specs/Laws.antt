@@ -1,19 +1,6 @@
 -- A replay goes through states of the core.
-use Rattle.std.specs.Prelude.{
-  ◌≡◌,
-  ℕ,
-  ◌≤◌,
-  List,
-  ◌++◌,
-  length,
-  take,
-  slice_get,
-  Some,
-  None,
-  true,
-  Result,
-  Err,
-}
+use Rattle.std.specs.Prelude.{◌≡◌, ℕ, ◌≤◌, List, ◌++◌, length, take, slice_get, Some, None, true}
+use Rattle.std.specs.Prelude.{Result, Err}
 use Rattle.std.specs.List.{AllByRecursion}
 use Rattle.tk_ids.specs.declared.descriptors.Descriptor.{Descriptor}
 use Rattle.tk_events.specs.declared.events.Event.{Event}
@@ -27,17 +14,8 @@ use Rattle.tk_queue_replay.specs.declared.replays.ReplayFault.TheVariants as fau
 use Rattle.tk_queue_replay.specs.ReplayText.{IsPlayed}
 use Rattle.tk_queue_core.specs.CoreState.{has_ended}
 use Rattle.tk_queue_core.specs.Core.{Core, IsCore, entries}
-use Rattle.tk_queue_replay.specs.Replay.{
-  Moment,
-  Faulty,
-  IsTurn,
-  script_of,
-  count_of,
-  plays,
-  start,
-  ReplayInput,
-  StopsAt,
-}
+use Rattle.tk_queue_replay.specs.Replay.{Moment, Faulty, IsTurn, script_of, count_of, plays, start}
+use Rattle.tk_queue_replay.specs.Replay.{ReplayInput, StopsAt}
 use Rattle.tk_queue_replay.specs.TurnItems.{AreItemsOf, item_after}
 
 -- the moment is the core's state in which each worker sent as much of its script as is counted, and

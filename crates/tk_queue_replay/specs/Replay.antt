@@ -1,26 +1,6 @@
 -- Replays: each worker goes through its script, by the order of the turns.
-use Rattle.std.specs.Prelude.{
-  ◌≡◌,
-  ℕ,
-  ◌+◌,
-  ◌-◌,
-  if◌then◌else◌,
-  List,
-  [],
-  ◌∷◌,
-  length,
-  take,
-  get_or,
-  replicate,
-  slice_set,
-  slice_get,
-  Option,
-  Some,
-  None,
-  Result,
-  Ok,
-  Err,
-}
+use Rattle.std.specs.Prelude.{◌≡◌, ℕ, ◌+◌, ◌-◌, if◌then◌else◌, List, [], ◌∷◌, length, take, get_or}
+use Rattle.std.specs.Prelude.{replicate, slice_set, slice_get, Option, Some, None, Result, Ok, Err}
 use Rattle.tk_ids.specs.declared.descriptors.Descriptor.{Descriptor}
 use Rattle.tk_events.specs.declared.events.Event.{Event}
 use Rattle.tk_events.specs.declared.events.Entry.{Entry}

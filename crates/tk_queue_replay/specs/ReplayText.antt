@@ -1,27 +1,6 @@
 -- The text of a replay, and what playing an input answers.
-use Rattle.std.specs.Prelude.{
-  ◌≡◌,
-  ◌≢◌,
-  ◌≤◌,
-  ◌<◌,
-  ◌+◌,
-  ◌⊎◌,
-  ℕ,
-  zero,
-  suc,
-  List,
-  [],
-  ◌∷◌,
-  ◌++◌,
-  length,
-  codes,
-  Option,
-  Some,
-  Result,
-  Ok,
-  Err,
-  false,
-}
+use Rattle.std.specs.Prelude.{◌≡◌, ◌≢◌, ◌≤◌, ◌<◌, ◌+◌, ◌⊎◌, ℕ, zero, suc, List, [], ◌∷◌, ◌++◌}
+use Rattle.std.specs.Prelude.{length, codes, Option, Some, Result, Ok, Err, false}
 use Rattle.std.specs.List.{AllByRecursion}
 use Rattle.std.specs.Io.KnownBytes.{Appends}
 use Rattle.tk_ids.specs.declared.descriptors.Descriptor.{Descriptor}
@@ -47,15 +26,8 @@ use Rattle.tk_queue_replay.specs.declared.turns.Turn.{Turn}
 use Rattle.tk_queue_replay.specs.declared.replays.ReplayFault.{ReplayFault}
 use Rattle.tk_queue_replay.specs.declared.replays.ReplayFault.TheVariants as faults
 use Rattle.tk_queue_replay.specs.Script.{IsCount, workers_line, AreTurns, turns_line}
-use Rattle.tk_queue_replay.specs.Replay.{
-  Moment,
-  Faulty,
-  Refuses,
-  plays,
-  start,
-  ReplayInput,
-  StopsAt,
-}
+use Rattle.tk_queue_replay.specs.Replay.{Moment, Faulty, Refuses, plays, start, ReplayInput}
+use Rattle.tk_queue_replay.specs.Replay.{StopsAt}
 
 -- what a replay text says
 pub record Scenario : Type 0 where

@@ -1,20 +1,7 @@
 -- What the turns of a replay put into the queue: the j-th turn of a worker gives item j of its
 -- script followed by its mark, and the items stand in the order of the turns.
-use Rattle.std.specs.Prelude.{
-  ◌≡◌,
-  ℕ,
-  ◌==◌,
-  Bool,
-  true,
-  false,
-  List,
-  ◌∷◌,
-  ◌++◌,
-  length,
-  count_by,
-  slice_get,
-  Option,
-}
+use Rattle.std.specs.Prelude.{◌≡◌, ℕ, ◌==◌, Bool, true, false, List, ◌∷◌, ◌++◌, length, count_by}
+use Rattle.std.specs.Prelude.{slice_get, Option}
 use Rattle.tk_events.specs.declared.events.Event.{Event}
 use Rattle.tk_queue_core.specs.declared.items.Item.{Item}
 use Rattle.tk_queue_replay.specs.declared.turns.Turn.{Turn}

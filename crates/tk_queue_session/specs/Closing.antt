@@ -4,11 +4,8 @@ use Rattle.atomic_table.specs.Seated.{TableId}
 use Rattle.tk_events.specs.declared.events.Event.{Event}
 use Rattle.tk_record.specs.Mixing.{IsWorkerOf}
 use Rattle.tk_queue_session.specs.declared.close_faults.CloseReason.{CloseReason}
-use Rattle.tk_queue_session.specs.declared.close_faults.CloseReason.TheVariants.{
-  Missing,
-  Twice,
-  NotDrained,
-}
+use Rattle.tk_queue_session.specs.declared.close_faults.CloseReason.TheVariants.{Missing, Twice}
+use Rattle.tk_queue_session.specs.declared.close_faults.CloseReason.TheVariants.{NotDrained}
 use Rattle.tk_queue_session.specs.declared.session_rules.PassView.{PassView}
 use Rattle.tk_queue_session.specs.declared.session_rules.PassView.TheVariants.{Takes}
 use Rattle.tk_queue_session.specs.Senders.{SenderView}

@@ -14,11 +14,8 @@ use Rattle.tk_record.specs.Recorded.{Recorded}
 use Rattle.tk_record.specs.Entries.{desc, desc_in}
 use Rattle.tk_queue_core.specs.Limits.{most_workers}
 use Rattle.tk_queue_session.specs.declared.sender_faults.SendFault.{SendFault}
-use Rattle.tk_queue_session.specs.declared.sender_faults.SendFault.TheVariants.{
-  UnknownNode,
-  Unlawful,
-  Limit,
-}
+use Rattle.tk_queue_session.specs.declared.sender_faults.SendFault.TheVariants.{UnknownNode}
+use Rattle.tk_queue_session.specs.declared.sender_faults.SendFault.TheVariants.{Unlawful, Limit}
 use Rattle.tk_queue_session.specs.declared.session_rules.PassView.{PassView}
 use Rattle.tk_queue_session.specs.declared.session_rules.PassView.TheVariants.{Sends}
 use Rattle.tk_queue_session.specs.Limits.{most_events}

@@ -5,12 +5,8 @@ use Rattle.tk_events.specs.declared.events.Entry.{Entry}
 use Rattle.tk_query_lifecycle.specs.Lifecycle.{is_event}
 use Rattle.tk_explanations.specs.EventSearches.{begins, steps, succeeds}
 use Rattle.tk_explanations.specs.declared.event_searches.EventTest.{EventTest}
-use Rattle.tk_explanations.specs.declared.event_searches.EventTest.TheVariants.{
-  Starts,
-  Begins,
-  Steps,
-  Succeeds,
-}
+use Rattle.tk_explanations.specs.declared.event_searches.EventTest.TheVariants.{Starts, Begins}
+use Rattle.tk_explanations.specs.declared.event_searches.EventTest.TheVariants.{Steps, Succeeds}
 
 -- whether the event passes the test
 abbrev pub passes : EventTest → Entry → Bool

@@ -1,18 +1,6 @@
 -- By what conditions are judged.
-use Rattle.std.specs.Prelude.{
-  ◌≡◌,
-  ◌≢◌,
-  ℕ,
-  Bool,
-  false,
-  ◌&&◌,
-  List,
-  get_or,
-  Option,
-  Some,
-  None,
-  bytes_eq,
-}
+use Rattle.std.specs.Prelude.{◌≡◌, ◌≢◌, ℕ, Bool, false, ◌&&◌, List, get_or, Option, Some, None}
+use Rattle.std.specs.Prelude.{bytes_eq}
 use Rattle.std.specs.List.{list_all}
 use Rattle.std.specs.Global.{Box, Vec}
 use Rattle.tk_ids.specs.IdText.{id_text}
@@ -26,29 +14,14 @@ use Rattle.tk_record.specs.declared.selections.ColumnTest.{ColumnTest}
 use Rattle.tk_query_conditions.specs.declared.conditions.Condition.{Condition}
 use Rattle.tk_query_conditions.specs.declared.conditions.Condition as condition
 use Rattle.tk_query.specs.declared.rules.PayloadTest.{PayloadTest}
-use Rattle.tk_query.specs.declared.rules.PayloadTest.TheVariants.{
-  Reason,
-  Message,
-  MessageContains,
-  Path,
-  Report,
-}
+use Rattle.tk_query.specs.declared.rules.PayloadTest.TheVariants.{Reason, Message, MessageContains}
+use Rattle.tk_query.specs.declared.rules.PayloadTest.TheVariants.{Path, Report}
 use Rattle.tk_query.specs.declared.rules.DescriptorTest.{DescriptorTest}
 use Rattle.tk_query.specs.declared.rules.DescriptorTest.TheVariants.{Engine, Id, Segment, Name}
 use Rattle.tk_query.specs.declared.rules.Rule.{Rule}
 use Rattle.tk_query.specs.declared.rules.Rule.TheVariants as rule
-use Rattle.tk_query.specs.Holds.{
-  has_descriptor,
-  has_message,
-  has_path,
-  has_reason,
-  has_segment,
-  has_within,
-  holds,
-  is_engine,
-  message_contains,
-  reports,
-}
+use Rattle.tk_query.specs.Holds.{has_descriptor, has_message, has_path, has_reason, has_segment}
+use Rattle.tk_query.specs.Holds.{has_within, holds, is_engine, message_contains, reports}
 
 -- whether a payload passes the test
 abbrev pub payload_passes : PayloadTest → Payload → Bool

@@ -1,11 +1,8 @@
 -- What the reader of the code has read, as a state of the machine.
 use Rattle.std.specs.Prelude.{ℕ, List, [], ◌∷◌, ◌++◌, length, IsUtf8}
 use Rattle.tk_query_conditions.specs.declared.partial_texts.Escape.{Escape}
-use Rattle.tk_query_conditions.specs.declared.partial_texts.Escape.TheVariants.{
-  Outside,
-  Percent,
-  Digit,
-}
+use Rattle.tk_query_conditions.specs.declared.partial_texts.Escape.TheVariants.{Outside, Percent}
+use Rattle.tk_query_conditions.specs.declared.partial_texts.Escape.TheVariants.{Digit}
 use Rattle.tk_query_conditions.specs.declared.words.TextAtom as text_atom
 use Rattle.tk_query_conditions.specs.declared.words.TextAtom.TheVariants as text_atoms
 use Rattle.tk_query_conditions.specs.declared.words.Opener as opener
@@ -18,18 +15,8 @@ use Rattle.tk_query_conditions.specs.declared.readers.Position.TheVariants as po
 use Rattle.tk_query_conditions.specs.declared.readers.Reader.{Reader}
 use Rattle.tk_query_conditions.specs.Characters.{percent}
 use Rattle.tk_query_conditions.specs.steps.Characters.{digit_two}
-use Rattle.tk_query_conditions.specs.Cond.{
-  TextAtom,
-  Id,
-  Name,
-  Skipped,
-  FailedWith,
-  AbortedWith,
-  Message,
-  File,
-  NoPairs,
-  Nothing,
-}
+use Rattle.tk_query_conditions.specs.Cond.{TextAtom, Id, Name, Skipped, FailedWith, AbortedWith}
+use Rattle.tk_query_conditions.specs.Cond.{Message, File, NoPairs, Nothing}
 use Rattle.tk_query_conditions.specs.CondOf.{cond_of, pairs_from}
 use Rattle.tk_query_conditions.specs.steps.CondOf.{conds_from}
 use Rattle.tk_query_conditions.specs.steps.Reading.{OpenGroup, OpenNot, OpenAll, OpenAny, Opener}

@@ -7,46 +7,14 @@ use Rattle.std.specs.List.{list_any}
 use Rattle.tk_query_conditions.specs.Characters.{percent, opening_bracket, closing_bracket, comma}
 use Rattle.tk_query_conditions.specs.steps.Characters.{digit_two, digit_five, digit_eight}
 use Rattle.tk_query_conditions.specs.steps.Characters.{digit_nine, digit_c}
-use Rattle.tk_query_conditions.specs.Cond.{
-  Bare,
-  Test,
-  Container,
-  Engine,
-  Started,
-  Succeeded,
-  Failed,
-  Aborted,
-  TextAtom,
-  Id,
-  Name,
-  Skipped,
-  FailedWith,
-  AbortedWith,
-  Message,
-  File,
-  Pairs,
-  NoPairs,
-  MorePairs,
-  Cond,
-  Plain,
-  With,
-  OfKind,
-  HasSegment,
-  HasPairs,
-  All,
-  Any,
-  Not,
-  Conds,
-  Nothing,
-  More,
-  kind_text,
-}
+use Rattle.tk_query_conditions.specs.Cond.{Bare, Test, Container, Engine, Started, Succeeded}
+use Rattle.tk_query_conditions.specs.Cond.{Failed, Aborted, TextAtom, Id, Name, Skipped, FailedWith}
+use Rattle.tk_query_conditions.specs.Cond.{AbortedWith, Message, File, Pairs, NoPairs, MorePairs}
+use Rattle.tk_query_conditions.specs.Cond.{Cond, Plain, With, OfKind, HasSegment, HasPairs, All}
+use Rattle.tk_query_conditions.specs.Cond.{Any, Not, Conds, Nothing, More, kind_text}
 use Rattle.tk_query_conditions.specs.declared.partial_texts.Escape.{Escape}
-use Rattle.tk_query_conditions.specs.declared.partial_texts.Escape.TheVariants.{
-  Outside,
-  Percent,
-  Digit,
-}
+use Rattle.tk_query_conditions.specs.declared.partial_texts.Escape.TheVariants.{Outside, Percent}
+use Rattle.tk_query_conditions.specs.declared.partial_texts.Escape.TheVariants.{Digit}
 use Rattle.tk_events.specs.declared.kinds.Kind.{Kind}
 use Rattle.tk_events.specs.declared.kinds.Kind.TheVariants as event
 use Rattle.tk_query_conditions.specs.Reading.{begins_with}

@@ -1,22 +1,9 @@
 -- How a condition's text is put together: a word, and what stands in brackets after it.
 use Rattle.std.specs.Prelude.{ℕ, zero, suc, List, [], ◌∷◌, ◌++◌, codes}
 use Rattle.tk_query_conditions.specs.Characters.{opening_bracket, closing_bracket, comma}
-use Rattle.tk_query_conditions.specs.Cond.{
-  Cond,
-  Plain,
-  With,
-  OfKind,
-  HasSegment,
-  HasPairs,
-  All,
-  Any,
-  Not,
-  bare_text,
-  text_atom_text,
-  kind_text,
-  escaped,
-  pairs_text,
-}
+use Rattle.tk_query_conditions.specs.Cond.{Cond, Plain, With, OfKind, HasSegment, HasPairs, All}
+use Rattle.tk_query_conditions.specs.Cond.{Any, Not, bare_text, text_atom_text, kind_text, escaped}
+use Rattle.tk_query_conditions.specs.Cond.{pairs_text}
 
 -- the word with which a condition's text begins
 abbrev pub word_of : Cond → List ℕ

@@ -1,27 +1,7 @@
 -- What is known after the first events of a record, and what one more event makes of it.
-use Rattle.std.specs.Prelude.{
-  ◌≡◌,
-  ℕ,
-  ◌<◌,
-  ◌≤◌,
-  Bool,
-  true,
-  false,
-  not,
-  ◌&&◌,
-  ◌==◌,
-  if◌then◌else◌,
-  List,
-  length,
-  Option,
-  Some,
-  None,
-  slice_get,
-  bytes_eq,
-  Result,
-  Ok,
-  Err,
-}
+use Rattle.std.specs.Prelude.{◌≡◌, ℕ, ◌<◌, ◌≤◌, Bool, true, false, not, ◌&&◌, ◌==◌, if◌then◌else◌}
+use Rattle.std.specs.Prelude.{List, length, Option, Some, None, slice_get, bytes_eq, Result, Ok}
+use Rattle.std.specs.Prelude.{Err}
 use Rattle.std.specs.List.{list_any, sum_by}
 use Rattle.tk_ids.specs.IdText.{SegmentView, IsId, id_text, parent_of}
 use Rattle.tk_ids.specs.declared.descriptors.Descriptor.{Descriptor}
@@ -30,22 +10,14 @@ use Rattle.tk_events.specs.declared.events.Entry.{Entry}
 use Rattle.tk_events.specs.declared.statuses.Status.TheVariants.{Successful}
 use Rattle.tk_record.specs.Entries.{of_kind, of_status, with_entry}
 use Rattle.tk_record.specs.Recorded.{Recorded}
-use Rattle.tk_query_lifecycle.specs.Lifecycle.{
-  BreaksFirst,
-  BreaksNone,
-  HasId,
-  has_event,
-  has_run,
-  runs,
-}
+use Rattle.tk_query_lifecycle.specs.Lifecycle.{BreaksFirst, BreaksNone, HasId, has_event, has_run}
+use Rattle.tk_query_lifecycle.specs.Lifecycle.{runs}
 use Rattle.tk_query_lifecycle.specs.NeverRan.{EachDueKeyRuns, IsFirstNeverRun, NeverRuns}
 use Rattle.tk_query_lifecycle.specs.steps.KeyStates.{key_under, ArePut, IsCounted, advanced}
 use Rattle.tk_query_lifecycle.specs.steps.KeyStates.{is_running, refusal, running_child, state_of}
 use Rattle.tk_query_lifecycle.specs.declared.lifecycle_rules.LifecycleRule.{LifecycleRule}
-use Rattle.tk_query_lifecycle.specs.declared.lifecycle_rules.LifecycleRule.TheVariants.{
-  ParentUnknown,
-  ParentNotRunning,
-}
+use Rattle.tk_query_lifecycle.specs.declared.lifecycle_rules.LifecycleRule.TheVariants.{ParentUnknown}
+use Rattle.tk_query_lifecycle.specs.declared.lifecycle_rules.LifecycleRule.TheVariants.{ParentNotRunning}
 use Rattle.tk_query_lifecycle.specs.declared.key_states.Phase.{Phase}
 use Rattle.tk_query_lifecycle.specs.declared.key_states.Phase.TheVariants.{Idle, Running, Ended}
 use Rattle.tk_query_lifecycle.specs.declared.key_states.Parent.{Parent}

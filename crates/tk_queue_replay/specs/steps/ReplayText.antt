@@ -3,15 +3,8 @@ use Rattle.std.specs.Prelude.{◌≡◌, length, Some, Result, Ok, Err}
 use Rattle.tk_record.specs.Recorded.{Recorded}
 use Rattle.tk_queue_replay.specs.declared.replays.ReplayFault.{ReplayFault}
 use Rattle.tk_queue_replay.specs.declared.replays.ReplayFault.TheVariants as faults
-use Rattle.tk_queue_replay.specs.Replay.{
-  Moment,
-  Faulty,
-  Refuses,
-  plays,
-  start,
-  ReplayInput,
-  StopsAt,
-}
+use Rattle.tk_queue_replay.specs.Replay.{Moment, Faulty, Refuses, plays, start, ReplayInput}
+use Rattle.tk_queue_replay.specs.Replay.{StopsAt}
 
 -- ---- a line that may not stand where it stands
 

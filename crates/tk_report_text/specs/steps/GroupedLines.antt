@@ -1,27 +1,6 @@
 -- The lines of each id, while the events of a record are gathered.
-use Rattle.std.specs.Prelude.{
-  ◌≡◌,
-  ◌<◌,
-  ℕ,
-  Bool,
-  true,
-  false,
-  not,
-  cond,
-  nat_eq,
-  List,
-  [],
-  ◌∷◌,
-  ◌++◌,
-  ◌⊎◌,
-  length,
-  map,
-  filter,
-  Option,
-  Some,
-  bytes_eq,
-  slice_get,
-}
+use Rattle.std.specs.Prelude.{◌≡◌, ◌<◌, ℕ, Bool, true, false, not, cond, nat_eq, List, [], ◌∷◌}
+use Rattle.std.specs.Prelude.{◌++◌, ◌⊎◌, length, map, filter, Option, Some, bytes_eq, slice_get}
 use Rattle.std.specs.List.{flat_map, AllByRecursion}
 use Rattle.std.specs.List.Sorted.{IsPermutation, IsSortedByKey}
 use Rattle.std.specs.Option.{unwrap_or}
