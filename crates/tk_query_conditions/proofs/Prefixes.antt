@@ -20,7 +20,6 @@ use Rattle.tk_query_conditions.specs.steps.Reading.{openers, Opener, OfText, OfK
 use Rattle.tk_query_conditions.specs.steps.Reading.{OfPairs, OfAll, OfAny, OfNot, opened, close, close_empty}
 use Rattle.tk_query_conditions.specs.steps.Reading.{after_word, is_prefix, step, next_text}
 use Rattle.tk_query_conditions.specs.steps.Reading.{last_text}
-use Rattle.tk_ids.proofs.IdLemmas.{escaped-append}
 use Rattle.tk_ids.proofs.ReadingLemmas.{option_map_some}
 
 abbrev pub spelled_stack : List OpenGroup → List ℕ
@@ -96,8 +95,12 @@ prefix_entry P (entry ∷ table) word all e = ⊎_elim {C = (rest : List ℕ) ×
     (λ (h : is_prefix table word ≡ true). prefix_entry P table word all.1 h)
     (or_cases (begins_with word entry.0) (is_prefix table word) e)
 
+pub escaped_append : (a b : List ℕ) → escaped (a ++ b) ≡ escaped a ++ escaped b
+escaped_append [] b = refl
+escaped_append (x ∷ a) b = ap (λ rest. spelled_by x ++ rest) (escaped_append a b) ∙ sym (append_assoc (spelled_by x) (escaped a) (escaped b))
+
 escaped_more : (a : List ℕ) (b : ℕ) → escaped (a ++ b ∷ []) ≡ escaped a ++ spelled_by b
-escaped_more a b = escaped-append a (b ∷ []) ∙ ap (λ rest. escaped a ++ rest) (append-nil (spelled_by b))
+escaped_more a b = escaped_append a (b ∷ []) ∙ ap (λ rest. escaped a ++ rest) (append-nil (spelled_by b))
 
 plain_spelling : (b : ℕ) → (b == 37) ≡ false → (b == 40 || (b == 41 || b == 44)) ≡ false → spelled_by b ≡ b ∷ []
 plain_spelling b no37 others =
@@ -460,7 +463,7 @@ finishes Digit = (codes "5", 37 ∷ [], refl)
 part_finishes : (partial : List ℕ × Escape) → (more : List ℕ) × (text : List ℕ) × (escaped text ≡ part_text partial ++ more)
 part_finishes (bytes, escape) =
     let f = finishes escape in
-    (f.0, bytes ++ f.1, escaped-append bytes f.1 ∙ ap (λ x. escaped bytes ++ x) f.2 ∙ sym (append_assoc (escaped bytes) (pending escape) f.0))
+    (f.0, bytes ++ f.1, escaped_append bytes f.1 ∙ ap (λ x. escaped bytes ++ x) f.2 ∙ sym (append_assoc (escaped bytes) (pending escape) f.0))
 
 pub begins : (s : State) → IsSound s → Begins IsCondText (spelled s)
 begins (After stack c) h = completes stack c

@@ -16,7 +16,7 @@ use Rattle.tk_query_conditions.specs.steps.CondOf.{conds_from}
 use Rattle.tk_query_conditions.specs.steps.Writing.{separator, word_of, operand_text}
 use Rattle.tk_query_conditions.proofs.Members.{cond_of-All, cond_of-Any, conds_more}
 use Rattle.tk_query_conditions.proofs.ReaderLemmas.{pairs_push}
-use Rattle.tk_ids.proofs.IdLemmas.{escaped-append}
+use Rattle.tk_query_conditions.proofs.Prefixes.{escaped_append}
 
 -- Characters: no byte of one that stands as it is has an escape.
 
@@ -53,7 +53,7 @@ plain_pushed (Err x) old new c h i j k e = tt
 pub character_written : (c : ℕ) (before after rest left whole : List ℕ) → before ++ escaped rest ≡ whole → rest ≡ encode c ++ left
     → after ≡ before ++ escaped (encode c) → after ++ escaped left ≡ whole
 character_written c before after rest left whole i s p =
-    rw p (append_assoc before (escaped (encode c)) (escaped left) ∙ ap (λ e. before ++ e) (sym (escaped-append (encode c) left))
+    rw p (append_assoc before (escaped (encode c)) (escaped left) ∙ ap (λ e. before ++ e) (sym (escaped_append (encode c) left))
     ∙ ap (λ r. before ++ escaped r) (sym s) ∙ i)
 
 -- Lists: what stands between two of them.
