@@ -307,6 +307,8 @@ REPORTS = repeated(f"{RECORD}E|1|0|7|start\n", "E|1|0|7|report\n", "E|1|0|8|fini
 BAD = "testkit: line 3 is bad\n"
 RARE = "ask match loosely" + 1_000 * " all(failed(boom),name(e))"
 MANY_MEMBERS = f"all({','.join(2_000 * ['failed'])})"
+TEXT_ATOMS = ["skipped(x{})", "message(x{})", "failed(x{})", "aborted(x{})", "file(x{})", "entry(x{},v)"]
+MANY_TEXTS = f"all({','.join(TEXT_ATOMS[number % 6].format(number) for number in range(2_000))})"
 OF_NO_COLUMN = "ask match loosely" + 1_000 * " any(name(x),name(e))"
 LAST_FAILS = 49 * " started" + " failed"
 TOO_EARLY = " failed(boom)" + 49 * " started"
@@ -354,6 +356,7 @@ ROWS = [
     row("explained/loosely, the last of 50 conditions fails", "ask explain loosely" + LAST_FAILS, EVENTS, Costs(1.8, 26_000, 600, 312, 2), "no 49\n49 failed\n    1: "),
     row("explained/loosely, 1,000 rare conditions", RARE.replace("match", "explain"), FAILING, Costs(1.3, 25_600, 15_900, 312, 30), "yes\n0 all("),
     row("explained/loosely, 2,000 members", f"ask explain loosely {MANY_MEMBERS}", twenty_thousand_events, Costs(1.5, 2_000, 9_900, 12, 2), "no 0\n"),
+    row("explained/loosely, 2,000 members with texts", f"ask explain loosely {MANY_TEXTS}", twenty_thousand_events, Costs(0.4, 2_000, 20_300, 12, 2), "no 0\n"),
     row("explained/statistics", "ask explain stats all failed=9", FAILURES, Costs(0.8, 25_000, 200, 312, 2), "skipped 0\n", status=1),
     row("explained/in order, the last of 50 conditions fails", "ask explain in-order" + LAST_FAILS, EVENTS, Costs(1.8, 26_000, 1_000, 312, 2), "no 49\n0 started\n    0: "),
     row("explained/in order, too early", "ask explain in-order" + TOO_EARLY, FAILING, Costs(1.8, 26_000, 600, 312, 2), "no 1\n0 failed(boom)\n"),
@@ -520,6 +523,7 @@ BESIDE = [
     *[Pair("ask explain locks", "ask locks", input, 3, f"explained locks, {name}") for name, input in LOCKED if input in UNCOMPARED],
     Pair("ask explain loosely" + LAST_FAILS, "ask match loosely" + LAST_FAILS, EVENTS, 3),
     Pair(f"ask explain loosely {MANY_MEMBERS}", f"ask match loosely {MANY_MEMBERS}", EVENTS, 3, "explained 2,000 members beside their match"),
+    Pair(f"ask explain loosely {MANY_TEXTS}", f"ask match loosely {MANY_TEXTS}", EVENTS, 3, "explained 2,000 members with texts beside their match"),
     Pair("ask explain in-order" + LAST_FAILS, "ask match in-order" + LAST_FAILS, EVENTS, 3),
     Pair("ask explain in-order" + TOO_EARLY, "ask match in-order" + TOO_EARLY, FAILING, 3),
     Pair("ask explain exactly" + LAST_DIFFERS, "ask match exactly" + LAST_DIFFERS, fifty_skips, 3),

@@ -1,5 +1,5 @@
 -- The parts of a condition that holds.
-use Rattle.std.proofs.Common.{◌≡◌, ℕ, ◌+◌, min, true, false, cond, not, eq-eqb, ◌&&◌, ◌||◌, List, [], ◌∷◌, ◌++◌, ⊎_elim, map, Option, Some, None, refl, sym, ap, ◌∙◌, subst, arith}
+use Rattle.std.proofs.Common.{◌≡◌, ℕ, ◌+◌, ◌<◌, min, Bool, true, false, cond, not, eq-eqb, ◌&&◌, ◌||◌, List, [], ◌∷◌, ◌++◌, ⊎_elim, map, Option, Some, None, refl, sym, ap, ◌∙◌, subst, arith}
 use Rattle.std.specs.Prelude.{◌==◌, bytes_eq}
 use Rattle.std.specs.List.{list_all, list_any}
 use Rattle.std.proofs.lemmas.Bool.{and_parts, or_cases, or_left, or_right, true≢false}
@@ -18,7 +18,7 @@ use Rattle.tk_record.specs.Recorded.{Recorded}
 use Rattle.tk_query_conditions.specs.Cond.{Test, Container, Engine, Started, Succeeded, Failed, Aborted, Id, Name, Skipped, FailedWith, AbortedWith, Message, File, Cond, Plain, With, OfKind, HasSegment, HasPairs, All, Any, Not, Conds, Nothing, More}
 use Rattle.tk_query_conditions.specs.Reading.{begins_with}
 use Rattle.tk_query.specs.Holds.{cond_holds, all_hold, any_holds, has_descriptor, has_message, has_path, has_reason, has_within, message_contains, pairs_list, reports, same_pair}
-use Rattle.tk_query_nearest.specs.Parts.{Part, IsKind, MessageContains, ReasonContains, PathContains, NameContains, HasKey, Meets, part_holds, member_parts, missing_parts, missing, missing_of_all, fewest_missing, has_key, path_contains, reason_contains}
+use Rattle.tk_query_nearest.specs.Parts.{Part, IsKind, MessageContains, ReasonContains, PathContains, NameContains, HasKey, Meets, part_holds, other_parts, member_parts, missing_parts, missing, missing_of_all, fewest_missing, has_key, path_contains, reason_contains}
 use Rattle.tk_query_nearest.specs.declared.parts.TheConstants.{MAX_DISTANCE}
 use Rattle.tk_query_nearest.specs.Laws.{HoldsMissesNone}
 use Rattle.tk_query_nearest.proofs.PartLemmas.{missing-append}
@@ -195,6 +195,23 @@ module _ (r : Recorded) (e : Entry) where
   none_of (All cs) h = own_holds (All cs) h
   none_of (Any cs) h = own_holds (Any cs) h
   none_of (Not c) h = own_holds (Not c) h
+
+  -- the parts of a member, counted without asking of the last one where another doesn't hold
+  pub counted_without : (m : Cond) (others : ℕ) → others ≡ missing_parts r (other_parts m) e
+      → 0 < others → others + 1 ≡ missing_parts r (member_parts m) e
+  counted_without m others is some = by_last (cond_holds r m e) refl
+    where
+      by_last : (b : Bool) → cond_holds r m e ≡ b
+          → others + 1 ≡ missing_parts r (member_parts m) e
+      by_last true h = absurd (omega (
+        arith,
+        is,
+        missing-append r (other_parts m) (Meets m ∷ []) e,
+        none_of m h,
+      ))
+      by_last false h =
+          let last : missing_parts r (Meets m ∷ []) e ≡ 1 = ap (λ b. 0 + cond (not b) 1 0) h in
+          omega (arith, is, missing-append r (other_parts m) (Meets m ∷ []) e, last)
 
   mutual
     nothing_missing : (c : Cond) → cond_holds r c e ≡ true → missing r c e ≡ 0

@@ -10,11 +10,11 @@ use Rattle.tk_record.specs.Recorded.{Recorded}
 use Rattle.tk_query_conditions.specs.declared.conditions.Condition as real
 use Rattle.tk_query_conditions.specs.declared.conditions.Condition.{Condition}
 use Rattle.tk_query_conditions.specs.CondOf.{cond_of, pairs_from}
-use Rattle.tk_query_conditions.specs.Cond.{Test, Container, Engine, Started, Succeeded, Failed, Aborted, Id, Name, Skipped, FailedWith, AbortedWith, Message, File, Cond, Plain, With, OfKind, HasSegment, HasPairs, All, Any, Not, Conds, Nothing, More, NoPairs}
-use Rattle.tk_query.specs.Holds.{cond_holds, all_hold, any_holds, holds, pairs_list}
+use Rattle.tk_query_conditions.specs.Cond.{Cond, Plain, With, OfKind, HasSegment, HasPairs, All, Any, Not, Conds, Nothing, More, NoPairs}
+use Rattle.tk_query.specs.Holds.{cond_holds, all_hold, any_holds, pairs_list}
 use Rattle.tk_query.proofs.HoldsLemmas.{pairs_are}
 use Rattle.tk_query_nearest.specs.Members.{members, members_of}
-use Rattle.tk_query_nearest.specs.Parts.{Part, IsKind, MessageContains, ReasonContains, PathContains, NameContains, HasKey, Meets, part_holds, member_parts, missing_parts, missing, missing_of_all, fewest_missing, has_key}
+use Rattle.tk_query_nearest.specs.Parts.{Part, IsKind, HasKey, Meets, part_holds, other_parts, member_parts, missing_parts, missing, missing_of_all, fewest_missing, has_key}
 use Rattle.tk_query_nearest.specs.Laws.{MissingByMembers, NoneMissingHolds}
 
 pub missing-append : (r : Recorded) (xs ys : List Part) (e : Entry)
@@ -29,7 +29,7 @@ lack_is false = refl
 abbrev pub keys : List (List ℕ × List ℕ) → List Part
 keys pairs = map (λ (pair : List ℕ × List ℕ). HasKey pair.0) pairs
 
-keys_counted : (r : Recorded) (pairs : List (List ℕ × List ℕ)) (e : Entry)
+pub keys_counted : (r : Recorded) (pairs : List (List ℕ × List ℕ)) (e : Entry)
     → missing_parts r (keys pairs) e
     ≡ count_by (λ (pair : List ℕ × List ℕ). not (has_key pair.0 e.event.payload)) pairs
 keys_counted r [] e = refl
@@ -40,61 +40,29 @@ keys_counted r (pair ∷ pairs) e =
     ∙ sym (sum_by-cons
     (λ (p : List ℕ × List ℕ). cond (not (has_key p.0 e.event.payload)) 1 0) pair pairs)
 
--- the parts of `entry(..)`, counted one after the other
+-- the parts of `entry(..)` but for the last one, counted one after the other
 pub entry_lacks : (r : Recorded) (e : Entry) (pairs : List (List ℕ × List ℕ)) (m : Condition)
-    (own of_report of_keys : ℕ) → m ≡ real.Entry pairs → own ≡ (if holds r m e then 0 else 1)
+    (of_report of_keys : ℕ) → m ≡ real.Entry pairs
     → of_report ≡ (if of_kind kind.Reporting e then 0 else 1)
     → of_keys ≡ count_by (λ (p : List ℕ × List ℕ). not (has_key p.0 e.event.payload)) pairs
-    → own + of_report + of_keys ≡ missing_parts r (member_parts (cond_of m)) e
-entry_lacks r e pairs m own of_report of_keys is f g h =
-    let c = HasPairs (pairs_from NoPairs pairs) in
+    → of_report + of_keys ≡ missing_parts r (other_parts (cond_of m)) e
+entry_lacks r e pairs m of_report of_keys is f g =
     let list = pairs_list (pairs_from NoPairs pairs) in
-    let last = Meets c ∷ [] in
-    let all = missing-append r (IsKind kind.Reporting ∷ []) (keys list ++ last) e in
-    let rest = missing-append r (keys list) last e in
+    let all = missing-append r (IsKind kind.Reporting ∷ []) (keys list) e in
     let counted = ap (λ xs. missing_parts r (keys xs) e) (pairs_are pairs)
     ∙ keys_counted r pairs e in
-    let one = lack_is (of_kind kind.Reporting e) in
-    let itself = lack_is (cond_holds r c e) in
-    let own_is = f ∙ ap (λ x. if holds r x e then 0 else 1) is in
-    added own of_report of_keys (missing_parts r (IsKind kind.Reporting ∷ []) e)
-    (missing_parts r (keys list) e) (missing_parts r last e)
-    (own_is ∙ sym itself) (g ∙ sym one) (h ∙ sym counted)
-    ∙ sym (all ∙ ap (λ n. missing_parts r (IsKind kind.Reporting ∷ []) e + n) rest)
-    ∙ sym (ap (λ x. missing_parts r (member_parts (cond_of x)) e) is)
+    added of_report of_keys (missing_parts r (IsKind kind.Reporting ∷ []) e)
+    (missing_parts r (keys list) e)
+    (f ∙ sym (lack_is (of_kind kind.Reporting e))) (g ∙ sym counted)
+    ∙ sym all ∙ sym (ap (λ x. missing_parts r (other_parts (cond_of x)) e) is)
   where
-    added : (own report keys a b c : ℕ) → own ≡ c → report ≡ a → keys ≡ b
-        → own + report + keys ≡ a + (b + c)
-    added own report keys a b c f g h = omega arith
+    added : (report keys a b : ℕ) → report ≡ a → keys ≡ b → report + keys ≡ a + b
+    added report keys a b f g = omega arith
 
 -- one of two numbers is zero where the lesser is
 min_zero : (m n : ℕ) → min m n ≡ 0 → (m ≡ 0) ⊎ (n ≡ 0)
 min_zero m n e = ⊎_elim {C = (m ≡ 0) ⊎ (n ≡ 0)}
     (λ (lt : m < n). inl (omega arith)) (λ (le : n ≤ m). inr (omega arith)) (cases_lt m n)
-
--- the last part of a member is the member itself
-own_last : (m : Cond) → (others : List Part) × (member_parts m ≡ others ++ Meets m ∷ [])
-own_last (Plain Test) = ([], refl)
-own_last (Plain Container) = ([], refl)
-own_last (Plain Engine) = ([], refl)
-own_last (Plain Started) = ([], refl)
-own_last (Plain Succeeded) = (IsKind kind.Finished ∷ [], refl)
-own_last (Plain Failed) = (IsKind kind.Finished ∷ [], refl)
-own_last (Plain Aborted) = (IsKind kind.Finished ∷ [], refl)
-own_last (With Id text) = ([], refl)
-own_last (With Name text) = (NameContains text ∷ [], refl)
-own_last (With Skipped text) = (IsKind kind.Skipped ∷ ReasonContains text ∷ [], refl)
-own_last (With FailedWith text) = (IsKind kind.Finished ∷ Meets (Plain Failed) ∷ MessageContains text ∷ [], refl)
-own_last (With AbortedWith text) = (IsKind kind.Finished ∷ Meets (Plain Aborted) ∷ MessageContains text ∷ [], refl)
-own_last (With Message text) = (IsKind kind.Finished ∷ [], refl)
-own_last (With File text) = (IsKind kind.File ∷ PathContains text ∷ [], refl)
-own_last (OfKind kind) = ([], refl)
-own_last (HasSegment tag value) = ([], refl)
-own_last (HasPairs pairs) =
-    (IsKind kind.Reporting ∷ map (λ (p : List ℕ × List ℕ). HasKey p.0) (pairs_list pairs), refl)
-own_last (All cs) = ([], refl)
-own_last (Any cs) = ([], refl)
-own_last (Not c) = ([], refl)
 
 none_false : (b : Bool) → 0 + cond (not b) 1 0 ≡ 0 → b ≡ true
 none_false true e = refl
@@ -103,9 +71,7 @@ none_false false e = absurd (omega arith)
 member_holds : (r : Recorded) (m : Cond) (e : Entry) → missing_parts r (member_parts m) e ≡ 0
     → cond_holds r m e ≡ true
 member_holds r m e none =
-    let last = own_last m in
-    let sum = sym (ap (λ list. missing_parts r list e) last.1
-    ∙ missing-append r last.0 (Meets m ∷ []) e) ∙ none in
+    let sum = sym (missing-append r (other_parts m) (Meets m ∷ []) e) ∙ none in
     none_false (cond_holds r m e) (omega (arith, sum))
 
 uncapped : (n cap : ℕ) → min n (1 + cap) ≡ 0 → n ≡ 0

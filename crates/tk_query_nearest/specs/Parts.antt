@@ -91,27 +91,26 @@ part_holds r (NameContains text) e =
 part_holds r (HasKey key) e = has_key key e.event.payload
 part_holds r (Meets c) e = cond_holds r c e
 
--- the parts of a member, but of `any(..)`
-abbrev pub member_parts : Cond → List Part
-member_parts (Plain Succeeded) = IsKind kind.Finished ∷ Meets (Plain Succeeded) ∷ []
-member_parts (Plain Failed) = IsKind kind.Finished ∷ Meets (Plain Failed) ∷ []
-member_parts (Plain Aborted) = IsKind kind.Finished ∷ Meets (Plain Aborted) ∷ []
-member_parts (With FailedWith text) =
-    IsKind kind.Finished ∷ Meets (Plain Failed)
-    ∷ MessageContains text ∷ Meets (With FailedWith text) ∷ []
-member_parts (With AbortedWith text) =
-    IsKind kind.Finished ∷ Meets (Plain Aborted)
-    ∷ MessageContains text ∷ Meets (With AbortedWith text) ∷ []
-member_parts (With Message text) = IsKind kind.Finished ∷ Meets (With Message text) ∷ []
-member_parts (With Skipped text) =
-    IsKind kind.Skipped ∷ ReasonContains text ∷ Meets (With Skipped text) ∷ []
-member_parts (With File text) =
-    IsKind kind.File ∷ PathContains text ∷ Meets (With File text) ∷ []
-member_parts (With Name text) = NameContains text ∷ Meets (With Name text) ∷ []
-member_parts (HasPairs pairs) =
+-- the parts of a member, but of `any(..)` and but for the last one
+abbrev pub other_parts : Cond → List Part
+other_parts (Plain Succeeded) = IsKind kind.Finished ∷ []
+other_parts (Plain Failed) = IsKind kind.Finished ∷ []
+other_parts (Plain Aborted) = IsKind kind.Finished ∷ []
+other_parts (With FailedWith text) =
+    IsKind kind.Finished ∷ Meets (Plain Failed) ∷ MessageContains text ∷ []
+other_parts (With AbortedWith text) =
+    IsKind kind.Finished ∷ Meets (Plain Aborted) ∷ MessageContains text ∷ []
+other_parts (With Message text) = IsKind kind.Finished ∷ []
+other_parts (With Skipped text) = IsKind kind.Skipped ∷ ReasonContains text ∷ []
+other_parts (With File text) = IsKind kind.File ∷ PathContains text ∷ []
+other_parts (With Name text) = NameContains text ∷ []
+other_parts (HasPairs pairs) =
     IsKind kind.Reporting ∷ map (λ (pair : List ℕ × List ℕ). HasKey pair.0) (pairs_list pairs)
-    ++ Meets (HasPairs pairs) ∷ []
-member_parts c = Meets c ∷ []
+other_parts c = []
+
+-- the parts of a member, but of `any(..)`: the last one is that it holds itself
+abbrev pub member_parts : Cond → List Part
+member_parts c = other_parts c ++ Meets c ∷ []
 
 -- how many of the parts don't hold of an entry of the record
 abbrev pub missing_parts : Recorded → List Part → Entry → ℕ

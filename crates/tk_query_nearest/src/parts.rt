@@ -1,5 +1,5 @@
 //! How many parts of a condition don't hold of an event.
-ghost use Rattle.std.specs.Prelude.{◌≡◌, ◌≤◌, ◌+◌, min, not, if◌then◌else◌, bytes_eq, count_by, length, slice_get, MatchOption};
+ghost use Rattle.std.specs.Prelude.{◌≡◌, ◌<◌, ◌≤◌, ◌+◌, min, not, if◌then◌else◌, bytes_eq, count_by, length, slice_get, MatchOption};
 ghost use Rattle.std.specs.List.{list_any};
 ghost use Rattle.tk_record.specs.Entries.{of_kind, of_status, desc};
 ghost use Rattle.tk_record.specs.Record.{entry_of_view};
@@ -7,7 +7,7 @@ ghost use Rattle.tk_query_conditions.specs.Cond.{All, Any, Nothing};
 ghost use Rattle.tk_query_conditions.specs.CondOf.{cond_of};
 ghost use Rattle.tk_query_conditions.specs.steps.CondOf.{conds_from};
 ghost use Rattle.tk_query.specs.Holds.{has_within, has_descriptor, message_contains};
-ghost use Rattle.tk_query_nearest.specs.Parts.{distance, has_key, member_parts, missing, missing_parts, path_contains, reason_contains};
+ghost use Rattle.tk_query_nearest.specs.Parts.{distance, has_key, member_parts, missing, missing_parts, other_parts, path_contains, reason_contains};
 ghost use Rattle.tk_query_nearest.specs.steps.RuledOut.{ruled_out_of};
 
 use crate::ruled_out::RuledOut;
@@ -132,32 +132,44 @@ fn missing_keys(payload: &Payload, named: &[(Text, Text)]) -> usize
     missing
 }
 
-/// How many parts of a member don't hold. `any(..)` is counted as its own part.
-fn missing_of_member(record: &Record, member: &Condition, event: &EntryView) -> usize
+/// How many parts of a member don't hold, but for the last one.
+fn missing_others(record: &Record, member: &Condition, event: &EntryView) -> usize
     ensures value { result
-        ≡ missing_parts «record».now (member_parts (cond_of member.now))
+        ≡ missing_parts «record».now (other_parts (cond_of member.now))
         (entry_of_view event.now) }
+    ensures bound { result < MAX_DISTANCE }
 {
-    let own = lack(holds(record, member, event));
     match member {
         Condition::Succeeded
         | Condition::Failed(None)
         | Condition::Aborted(None)
-        | Condition::Message(_) => own + lack_of_kind(event, Kind::Finished),
-        Condition::Failed(Some(text)) => own + lack_of_finish(event, Status::Failed, text),
-        Condition::Aborted(Some(text)) => own + lack_of_finish(event, Status::Aborted, text),
+        | Condition::Message(_) => lack_of_kind(event, Kind::Finished),
+        Condition::Failed(Some(text)) => lack_of_finish(event, Status::Failed, text),
+        Condition::Aborted(Some(text)) => lack_of_finish(event, Status::Aborted, text),
         Condition::Skipped(text) => {
-            own + lack_of_kind(event, Kind::Skipped) + lack(reason_contains(event.payload, text))
+            lack_of_kind(event, Kind::Skipped) + lack(reason_contains(event.payload, text))
         }
         Condition::File(text) => {
-            own + lack_of_kind(event, Kind::File) + lack(path_contains(event.payload, text))
+            lack_of_kind(event, Kind::File) + lack(path_contains(event.payload, text))
         }
-        Condition::Name(text) => own + lack(name_contains(record, event.key, text)),
+        Condition::Name(text) => lack(name_contains(record, event.key, text)),
         Condition::Entry(pairs) => {
-            own + lack_of_kind(event, Kind::Reporting)
-                + missing_keys(event.payload, pairs.as_slice())
+            lack_of_kind(event, Kind::Reporting) + missing_keys(event.payload, pairs.as_slice())
         }
-        _ => own,
+        _ => 0,
+    }
+}
+
+/// How many parts of a member don't hold. `any(..)` is counted as its own part.
+fn missing_of_member(record: &Record, member: &Condition, event: &EntryView) -> usize
+    ensures { result
+        ≡ missing_parts «record».now (member_parts (cond_of member.now))
+        (entry_of_view event.now) }
+{
+    // Where another part doesn't hold, the last one, the member itself, doesn't either.
+    match missing_others(record, member, event) {
+        0 => lack(holds(record, member, event)),
+        others => others + 1,
     }
 }
 
@@ -215,7 +227,8 @@ pub fn distance(record: &Record, condition: &Condition, event: &EntryView) -> us
 }
 
 /// How many parts of a condition don't hold of the entry at a position, counted up to `most`; 0
-/// past the last one. None is counted where the event's kind and status alone rule out as many.
+/// past the last one. None is counted where what the event is, whatever its texts are, rules out as
+/// many.
 pub(crate) fn distance_at(
     record: &Record,
     condition: &Condition,
@@ -227,6 +240,8 @@ pub(crate) fn distance_at(
     ensures { MatchOption (slice_get «record».now.entries position) (result ≡ 0) (λ e.
         result ≡ min (distance «record».now (cond_of condition.now) e) most) }
 {
+    // For the proof: an event has no other content than its kind asks for.
+    record.shows_record();
     match record.entry(position) {
         Some(event) if ruled_out.by(&event) >= most => most,
         Some(event) => distance_up_to(record, condition, &event, most),

@@ -1,18 +1,11 @@
-use Rattle.std.proofs.Common.{List, ℕ, not, ap, ◌∙◌}
-use Rattle.std.specs.Prelude.{count_by, if◌then◌else◌}
+use Rattle.std.proofs.Common.{arith}
 use Rattle.tk_record.specs.Record.{entry_of_view}
-use Rattle.tk_query_nearest.specs.Parts.{has_key}
-use Rattle.tk_query_nearest.proofs.PartLemmas.{entry_lacks}
+use Rattle.tk_query_conditions.specs.CondOf.{cond_of}
+use Rattle.tk_query_nearest.proofs.HoldingLemmas.{counted_without}
 use Rattle.tk_query_nearest.proofs.parts.missing_of_member.Goals as goal
 
-pub returns-in-Entry : goal.returns-in-Entry
-returns-in-Entry c = record {
-  value =
-      entry_lacks c.args.«record».now (entry_of_view c.args.event.now) c.in-Entry.pairs
-      c.args.member.now c.lack-own.result c.lack_of_kind-in-Entry.result c.missing_keys.result
-      c.in-Entry.is (c.lack-own.ensures.value ∙ ap (λ b. if b then 0 else 1) c.holds.ensures)
-      c.lack_of_kind-in-Entry.ensures.value
-      (c.missing_keys.ensures.value
-      ∙ ap (count_by (λ (p : List ℕ × List ℕ). not (has_key p.0 c.args.event.now.payload.now)))
-      c.as_slice.ensures);
-}
+pub returns-in_default : goal.returns-in_default
+returns-in_default c =
+    counted_without c.args.«record».now (entry_of_view c.args.event.now)
+    (cond_of c.args.member.now) c.missing_others.result c.missing_others.ensures.value
+    (omega arith)

@@ -8,5 +8,5 @@ use Rattle.tk_query_nearest.proofs.ruled_out.+ruled_out.Given as goal
 abbrev pub invariant-ruled_out_of_all-loop-member : goal.invariant-ruled_out_of_all-loop-member
 invariant-ruled_out_of_all-loop-member l =
     l.total
-    ≡ min (ruled_out (All (conds_from Nothing (take l.member-index l.members))) l.kind l.status)
-    MAX_DISTANCE
+    ≡ min (ruled_out (All (conds_from Nothing (take l.member-index l.members))) l.kind l.status
+    l.with_message) MAX_DISTANCE
