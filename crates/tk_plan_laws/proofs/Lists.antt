@@ -1,8 +1,11 @@
 -- Lists of lists of which all but one are empty.
-use Rattle.std.proofs.Common.{◌≡◌, ◌≢◌, ◌≤◌, ◌<◌, ℕ, zero, suc, ◌+◌, ◌⊎◌, List, [], ◌∷◌, ◌++◌, flat_map, Option, Some, None, slice_get, refl, sym, ap, ap₂, ◌∙◌, arith, append-nil, inl, inr, ⊎_elim, ◌==◌, tests, subst}
+use Rattle.std.proofs.Common.{◌≡◌, ◌≢◌, ◌≤◌, ◌<◌, ℕ, zero, suc, ◌+◌, ◌⊎◌, List, [], ◌∷◌, ◌++◌, flat_map, Option, Some, None, slice_get, refl, sym, ap, ap₂, ◌∙◌, arith, append-nil, inl, inr, ⊎_elim, ◌==◌, tests, subst, Bool, true, false, if◌then◌else◌}
 use Rattle.std.proofs.lemmas.Bool.{cases_Bool}
 use Rattle.tk_base.proofs.Lists.{nil_left, nil_right}
-use Rattle.tk_plan_laws.proofs.Model.{AllNil, AtMostOne, Each, times, times_in}
+
+abbrev pub Each : {A : Type 0} → (A → Type 0) → List A → Type 0
+Each P [] = Unit {0}
+Each P (x ∷ xs) = P x × Each P xs
 
 pub each_at : {A : Type 0} (P : A → Type 0) (xs : List A) (i : ℕ) (x : A) → Each P xs → slice_get xs i ≡ Some x → P x
 each_at P [] i x h e = cc
@@ -25,7 +28,43 @@ pub each_split : {A : Type 0} (P : A → Type 0) (xs ys : List A) → Each P (xs
 each_split P [] ys h = (tt, h)
 each_split P (x ∷ xs) ys h = let e = each_split P xs ys h.1 in ((h.0, e.0), e.1)
 
+-- ---- how many pass the test
+
+abbrev pub count : {A : Type 0} → (A → Bool) → List A → ℕ
+count p [] = 0
+count p (x ∷ xs) = if p x then 1 + count p xs else count p xs
+
+pub count-append : {A : Type 0} (p : A → Bool) (xs ys : List A) → count p (xs ++ ys) ≡ count p xs + count p ys
+count-append p [] ys = omega arith
+count-append p (x ∷ xs) ys = let h = count-append p xs ys in
+    elim (p x) as (λ b. (if b then 1 + count p (xs ++ ys) else count p (xs ++ ys)) ≡ (if b then 1 + count p xs else count p xs) + count p ys)
+    [ true ↦ omega (arith, h) | false ↦ h ]
+
+pub not_none : (b : Bool) (n : ℕ) → b ≡ true → (if b then 1 + n else n) ≡ 0 → ⊥
+not_none true n e h = omega (arith, h)
+not_none false n e h = cc
+
+pub none_tail : (b : Bool) (n : ℕ) → (if b then 1 + n else n) ≡ 0 → n ≡ 0
+none_tail true n h = let no : ⊥ = omega (arith, h) in absurd no
+none_tail false n h = h
+
+pub none_left : (b : Bool) (n : ℕ) → b ≡ true → (if b then 1 + n else n) ≤ 1 → n ≡ 0
+none_left true n e h = omega (arith, h)
+none_left false n e h = cc
+
+pub at_most_tail : (b : Bool) (n : ℕ) → (if b then 1 + n else n) ≤ 1 → n ≤ 1
+at_most_tail true n h = omega (arith, h)
+at_most_tail false n h = h
+
 -- ---- at most one
+
+-- each list that g gives is empty; all but one at most are
+abbrev pub AllNil : {A B : Type 0} → (A → List B) → List A → Type 0
+AllNil g xs = Each (λ x. g x ≡ []) xs
+
+abbrev pub AtMostOne : {A B : Type 0} → (A → List B) → List A → Type 0
+AtMostOne g [] = Unit {0}
+AtMostOne g (x ∷ xs) = ((g x ≡ []) × AtMostOne g xs) ⊎ AllNil g xs
 
 pub all_nil : {A B : Type 0} (g : A → List B) (xs : List A) → flat_map g xs ≡ [] → AllNil g xs
 all_nil g [] e = tt
@@ -83,6 +122,15 @@ lone_is g (x ∷ xs) (suc k) h =
     ∙ lone_is g xs k (λ i y e n. h (suc i) y e (λ same. n (let p : i ≡ k = omega (arith, same) in p)))
 
 -- ---- lists by numbers that were drawn
+
+-- how often u stands in the list, and in the lists together
+abbrev pub times : ℕ → List ℕ → ℕ
+times u [] = 0
+times u (x ∷ xs) = if x == u then 1 + times u xs else times u xs
+
+abbrev pub times_in : ℕ → List (List ℕ) → ℕ
+times_in u [] = 0
+times_in u (l ∷ ls) = times u l + times_in u ls
 
 abbrev pub copies : {B : Type 0} → ℕ → List B → List B
 copies zero l = []

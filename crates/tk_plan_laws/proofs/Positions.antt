@@ -3,7 +3,7 @@ use Rattle.std.proofs.Common.{◌≡◌, ◌<◌, ◌≤◌, ℕ, zero, suc, ◌
 use Rattle.std.specs.List.{list_any}
 use Rattle.std.proofs.lemmas.Bool.{true≢false, and_from, and_parts, cases_Bool, or_cases, or_left, or_right}
 use Rattle.std.proofs.lemmas.Option.{same_Some, none-some}
-use Rattle.tk_plan_laws.proofs.Model.{count}
+use Rattle.tk_plan_laws.proofs.Lists.{count}
 use Rattle.tk_plan_laws.specs.Listening.{is_followed, precedes}
 
 -- an element that passes the test

@@ -39,7 +39,7 @@ use Rattle.tk_events.specs.Registration.{registered_key}
 use Rattle.tk_plan_laws.specs.Scripts.{IsRunOf, may, played}
 use Rattle.tk_plan_laws.specs.Spines.{IsOnSpine, IsSpineEvent}
 use Rattle.tk_plan_laws.proofs.SpineEvents.{spine_finishes}
-use Rattle.tk_plan_laws.proofs.PlanTrees.{models, trees_of}
+use Rattle.tk_plan_laws.proofs.PlanTrees.{plan_tree}
 use Rattle.tk_plan_laws.proofs.RecordIds.{step_or_none}
 use Rattle.tk_plan_laws.proofs.RecordLifecycle.{run_keeps}
 use Rattle.tk_plan_laws.proofs.Positions.{any_at, in_taken, of_map}
@@ -321,11 +321,11 @@ pub spine_keeps : (nodes : List NumberedNode) (table : List Descriptor) → IsPl
     → ((key : ℕ) → IsOnSpine nodes key → runs key (entries_by 0 (before_of (forest nodes))) ≡ true)
     → KeepsLifecycle (record { table = table; entries = entries_by 0 (before_of (forest nodes)) ++ entries_by 0 (after_of (forest nodes)) })
 spine_keeps nodes table planned numbers each started =
-    let plan = models nodes table planned numbers in
+    let plan = plan_tree nodes table planned numbers in
     without_mid table (entries_by 0 (before_of (forest nodes))) (entries_by 1 (all_emitted nodes table)) (entries_by 0 (after_of (forest nodes))) (λ key. IsOnSpine nodes key × (key < length table))
     (λ key h. h.1)
     (entry_own nodes table (before_of (forest nodes)) (after_of (forest nodes)) each)
     (λ key h. started key h.0)
     (λ key h. spine_finishes nodes key h.0)
     plan.once
-    (run_keeps nodes table (trees_of nodes) 1 (lone_record nodes table) plan (lone_run nodes table))
+    (run_keeps nodes table 1 (lone_record nodes table) plan (lone_run nodes table))

@@ -29,8 +29,7 @@ use Rattle.tk_plan.specs.Ids.{descriptor, descriptor_in, descriptors, descriptor
 use Rattle.tk_plan.specs.Planned.{IsPlanned}
 use Rattle.tk_plan.specs.Trees.{Forest, Tree, forest, more, no_trees, tree}
 use Rattle.tk_plan.specs.declared.trees.nodes.NumberedNode.{NumberedNode}
-use Rattle.tk_plan_laws.proofs.Lists.{each-append, each_at}
-use Rattle.tk_plan_laws.proofs.Model.{Each}
+use Rattle.tk_plan_laws.proofs.Lists.{Each, each-append, each_at}
 use Rattle.tk_plan_laws.proofs.Positions.{in_taken, of_map}
 
 -- the key stands below a static key that was skipped
