@@ -23,7 +23,7 @@ use Rattle.tk_plan_laws.specs.Listening.{IsOnce, finishes, is_of, skips, starts}
 use Rattle.tk_plan_laws.specs.Scripts.{IsRunOf, id_at}
 use Rattle.tk_plan_laws.proofs.RecordIds.{label_at, labelled, last_segment}
 use Rattle.tk_plan_laws.proofs.RecordLifecycle.{run_described, run_one_key}
-use Rattle.tk_plan_laws.proofs.ListenerSteps.{any_one, any_two, finish_or, finish_ran, listener_law, once, ran_of, same_one, skip_ran, start_or_skip}
+use Rattle.tk_plan_laws.proofs.ListenerSteps.{finish_or_skip, finish_ran, listener_law, once, ran_of, same_one, skip_ran, skipped_alone}
 use Rattle.tk_plan_laws.proofs.Lists.{Each, each-append, each_at, each_weaker}
 use Rattle.tk_plan_laws.proofs.MoveLabels.{AreBuilt, IsBuilt, Move, act_label, move_label, moves_in, plan_labels, publications}
 use Rattle.tk_plan_laws.proofs.PlanTrees.{IsPlanTree}
@@ -159,17 +159,6 @@ root_alone (x ∷ a) some s rest one =
     let long : length (a ++ s ∷ rest) ≡ length a + suc (length rest) = length-append a (s ∷ rest) in
     absurd (omega (arith, one, long))
 
--- ---- a successful finish
-
-not_finished : (i : List SegmentView) (ls : List Label) → IsOnce ls → list_any (finishes i) ls ≡ true → list_any (skips i) ls ≡ true → ⊥
-not_finished i [] o f k = true≢false (sym f)
-not_finished i (x ∷ []) o f k = true≢false (sym o ∙ (finish_or x.kind (and_parts (is_of i x) _ (any_one _ f)).1).0)
-not_finished i (x ∷ (y ∷ [])) o f k = ⊎_elim {C = ⊥}
-    (λ (h : skips i x ≡ true). start_or_skip x.kind o.0 (and_parts (is_of i x) _ h).1)
-    (λ (h : skips i y ≡ true). true≢false (sym (and_parts (is_of i y) _ h).1 ∙ (finish_or y.kind o.1).0))
-    (any_two _ _ k)
-not_finished i (x ∷ (y ∷ (z ∷ zs))) o f k = o
-
 -- ---- runs
 
 module _ (all : List NumberedNode) (table : List Descriptor) (workers : ℕ) (r : Recorded) (plan : IsPlanTree all table) (run : IsRunOf all table workers r) where
@@ -226,7 +215,7 @@ module _ (all : List NumberedNode) (table : List Descriptor) (workers : ℕ) (r 
           ⊎_elim {C = ⊥}
           (λ (same : parent_of own ≡ u.above).
           let ran = filter (ran_of u.above) (labels r) in
-          not_finished u.above ran (once all table workers r plan run u.above)
+          skipped_alone Finished finish_or_skip u.above ran (once all table workers r plan run u.above)
           (sym (any_kept (ran_of u.above) (finishes u.above) (finish_ran u.above) (labels r)) ∙ parent_finish u.above (sym same))
           (sym (any_kept (ran_of u.above) (skips u.above) (skip_ran u.above) (labels r)) ∙ u.skipped))
           (λ (b : IsParentBelow u.above (parent_of own)).

@@ -89,29 +89,31 @@ module _ (all : List NumberedNode) (i : List SegmentView) (n : Node) (k : ℕ) w
 
 -- ---- skipped
 
-pub start_or_skip : (k : Kind) → same_kind k Started ≡ true → same_kind k Skipped ≡ true → ⊥
+start_or_skip : (k : Kind) → same_kind k Started ≡ true → same_kind k Skipped ≡ true → ⊥
 start_or_skip k s h = let a : kind_code k ≡ 3 = grind (arith, tests, s) in let b : kind_code k ≡ 2 = grind (arith, tests, h) in omega (arith, a, b)
 
-pub finish_or : (k : Kind) → same_kind k Finished ≡ true → (same_kind k Skipped ≡ false) × (same_kind k Started ≡ false)
-finish_or k h = let a : kind_code k ≡ 4 = grind (arith, tests, h) in (grind (arith, tests, a), grind (arith, tests, a))
+pub finish_or_skip : (k : Kind) → same_kind k Finished ≡ true → same_kind k Skipped ≡ true → ⊥
+finish_or_skip k f h = let a : kind_code k ≡ 4 = grind (arith, tests, f) in let b : kind_code k ≡ 2 = grind (arith, tests, h) in omega (arith, a, b)
 
-pub any_two : (b c : Bool) → (b || (c || false)) ≡ true → (b ≡ true) ⊎ (c ≡ true)
+any_two : (b c : Bool) → (b || (c || false)) ≡ true → (b ≡ true) ⊎ (c ≡ true)
 any_two true c h = inl refl
 any_two false true h = inr refl
 any_two false false h = cc
 
-pub any_one : (b : Bool) → (b || false) ≡ true → b ≡ true
+any_one : (b : Bool) → (b || false) ≡ true → b ≡ true
 any_one true h = refl
 any_one false h = cc
 
-not_both : (i : List SegmentView) (ls : List Label) → IsOnce ls → list_any (starts i) ls ≡ true → list_any (skips i) ls ≡ true → ⊥
-not_both i [] o s k = cc
-not_both i (x ∷ []) o s k = start_or_skip x.kind (and_parts (is_of i x) _ (any_one _ s)).1 o
-not_both i (x ∷ (y ∷ [])) o s k = ⊎_elim
-    (λ h. start_or_skip x.kind o.0 (and_parts (is_of i x) _ h).1)
-    (λ h. let bad : true ≡ false = sym (and_parts (is_of i y) _ h).1 ∙ (finish_or y.kind o.1).0 in cc)
+-- where an id is skipped, nothing of it is of a kind that a skip isn't of
+pub skipped_alone : (other : Kind) → ((k : Kind) → same_kind k other ≡ true → same_kind k Skipped ≡ true → ⊥) → (i : List SegmentView) (ls : List Label)
+    → IsOnce ls → list_any (λ l. is_of i l && same_kind l.kind other) ls ≡ true → list_any (skips i) ls ≡ true → ⊥
+skipped_alone other differ i [] o s k = cc
+skipped_alone other differ i (x ∷ []) o s k = differ x.kind (and_parts (is_of i x) _ (any_one _ s)).1 o
+skipped_alone other differ i (x ∷ (y ∷ [])) o s k = ⊎_elim {C = ⊥}
+    (λ (h : skips i x ≡ true). start_or_skip x.kind o.0 (and_parts (is_of i x) _ h).1)
+    (λ (h : skips i y ≡ true). finish_or_skip y.kind o.1 (and_parts (is_of i y) _ h).1)
     (any_two _ _ k)
-not_both i (x ∷ (y ∷ (z ∷ zs))) o s k = o
+skipped_alone other differ i (x ∷ (y ∷ (z ∷ zs))) o s k = o
 
 start_ran : (i : List SegmentView) → Only (starts i) (ran_of i)
 start_ran i l h = ap₂ (λ b c. b && c) (and_parts (is_of i l) (same_kind l.kind Started) h).0
@@ -147,7 +149,7 @@ pub skipped_from : (ls : List Label) → ((i : List SegmentView) → IsOnce (fil
     → (i : List SegmentView) (s : SegmentView) (more : List SegmentView) → i ≢ [] → list_any (skips i) ls ≡ true → list_any (is_of (i ++ s ∷ more)) ls ≡ false
 skipped_from ls once first i s more n h = ⊎_elim
     (λ t. let up = below_started ls first more i s n t in
-    let no : ⊥ = not_both i (filter (ran_of i) ls) (once i) (sym (any_kept (ran_of i) (starts i) (start_ran i) ls) ∙ up) (sym (any_kept (ran_of i) (skips i) (skip_ran i) ls) ∙ h) in absurd no)
+    let no : ⊥ = skipped_alone Started start_or_skip i (filter (ran_of i) ls) (once i) (sym (any_kept (ran_of i) (starts i) (start_ran i) ls) ∙ up) (sym (any_kept (ran_of i) (skips i) (skip_ran i) ls) ∙ h) in absurd no)
     (λ f. f)
     (cases_Bool (list_any (is_of (i ++ s ∷ more)) ls))
 

@@ -2,7 +2,9 @@
 use Rattle.std.proofs.Common.{◌≡◌, ℕ, zero, suc, ◌+◌, nat_lt, true, false, List, [], ◌∷◌, ◌++◌, map, length, flat_map, Some, slice_get, refl, sym, ap, ap₂, ◌∙◌, append_assoc, if◌then◌else◌, inl, inr, ⊎_elim, arith, tests}
 use Rattle.std.proofs.lemmas.Bool.{cases_Bool}
 use Rattle.std.proofs.lemmas.List.{map-append}
+use Rattle.std.proofs.lemmas.Option.{slice_get_within}
 use Rattle.tk_base.proofs.Lists.{get_at_seam}
+use Rattle.tk_record.proofs.Registrations.{slice_get_prefix}
 use Rattle.tk_plan.specs.Cutting.{Part, begin_events, end_events, from_each, moves_of, spine_begins, spine_ends, whole_unit}
 use Rattle.tk_plan.specs.Events.{opening_events}
 use Rattle.tk_plan.specs.Numbers.{in_order}
@@ -25,9 +27,7 @@ use Rattle.tk_plan_laws.proofs.PlayedScripts.{IsKnownPart, IsOfSpine}
 use Rattle.tk_plan_laws.specs.Scripts.{ArePlayable, HasKey, IsPlayable, id_at, is_registration, key_for, key_of, known_after, payload_for, payload_of_node, played, position, step_event}
 
 pub get_prefix : {A : Type 0} (xs ys : List A) (i : ℕ) (x : A) → slice_get xs i ≡ Some x → slice_get (xs ++ ys) i ≡ Some x
-get_prefix [] ys i x e = cc
-get_prefix (z ∷ xs) ys zero x e = e
-get_prefix (z ∷ xs) ys (suc i) x e = get_prefix xs ys i x e
+get_prefix xs ys i x e = slice_get_prefix xs ys i (slice_get_within xs i x e) ∙ e
 
 module _ (all : List NumberedNode) (table : List Descriptor) where
   has_key : (ids : List ℕ) (k : ℕ) (a : Act) → IsPlayable all table ids k a → is_registration a ≡ false → HasKey all table ids k

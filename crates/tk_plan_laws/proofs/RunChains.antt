@@ -5,7 +5,7 @@ use Rattle.std.proofs.lemmas.List.{map-append, length-map}
 use Rattle.std.proofs.lemmas.List.Elements.{filter-append}
 use Rattle.std.proofs.lemmas.Grind.{flat_map-append}
 use Rattle.std.proofs.lemmas.List.Recursion.{is_count_by, is_sum_by}
-use Rattle.std.proofs.lemmas.Option.{same_Some, slice_get_past, slice_get_within}
+use Rattle.std.proofs.lemmas.Option.{same_Some, slice_get_cases, slice_get_past, slice_get_within}
 use Rattle.tk_record.specs.Recorded.{Recorded}
 use Rattle.tk_record.specs.Entries.{desc_in}
 use Rattle.tk_record.specs.Mixing.{of_worker}
@@ -39,11 +39,6 @@ use Rattle.tk_plan_laws.specs.Scripts.{ArePlayable, IsRunOf, id_at, may}
 get_back : {A : Type 0} (xs ys : List A) (i : ℕ) → slice_get (xs ++ ys) (length xs + i) ≡ slice_get ys i
 get_back [] ys i = ap (slice_get ys) (let e : 0 + i ≡ i = omega arith in e)
 get_back (x ∷ xs) ys i = ap (slice_get (x ∷ (xs ++ ys))) (let e : suc (length xs) + i ≡ suc (length xs + i) = omega arith in e) ∙ get_back xs ys i
-
-pub some_below : {A : Type 0} (xs : List A) (i : ℕ) → ((x : A) × (slice_get xs i ≡ Some x)) ⊎ ((slice_get xs i ≡ None) × (length xs ≤ i))
-some_below [] i = inr (refl, omega arith)
-some_below (x ∷ xs) zero = inl (x, refl)
-some_below (x ∷ xs) (suc i) = ⊎_elim (λ h. inl h) (λ h. inr (h.0, (let l : suc (length xs) ≤ suc i = omega (arith, h.1) in l))) (some_below xs i)
 
 is_seat : (i drawn workers : ℕ) → i < drawn → drawn ≡ workers → i + 1 ≤ workers
 is_seat i drawn workers a b = omega (arith, a, b)
@@ -132,11 +127,10 @@ module _ (all : List NumberedNode) (table : List Descriptor) (workers : ℕ) (r 
   worker_did : (i : ℕ) → WorkerDid i
   worker_did i = ⊎_elim
       (λ us.
-      let l = slice_get_within run.shared.drawn i us.0 us.1 in
-      let own : of_worker (i + 1) run.mid ≡ run.shared.lists (i + 1) = run.shared.mix.each (i + 1) (omega arith, is_seat i _ _ l run.shared.seats) in
-      inr (us.0, us.1, subst (Emits (may all table) (i + 1) 0 us.0) (sym own) (run.shared.emits i us.0 us.1)))
-      (λ none. inl (none.0, no_events workers (i + 1) run.mid run.shared.mix.workers (inr (no_seat i _ _ none.1 run.shared.seats))))
-      (some_below run.shared.drawn i)
+      let own : of_worker (i + 1) run.mid ≡ run.shared.lists (i + 1) = run.shared.mix.each (i + 1) (omega arith, is_seat i _ _ us.1 run.shared.seats) in
+      inr (us.0, us.2, subst (Emits (may all table) (i + 1) 0 us.0) (sym own) (run.shared.emits i us.0 us.2)))
+      (λ none. inl (none.1, no_events workers (i + 1) run.mid run.shared.mix.workers (inr (no_seat i _ _ none.0 run.shared.seats))))
+      (slice_get_cases run.shared.drawn i).1
 
   claims : (u : ℕ) → times_in u run.shared.drawn ≡ if nat_lt u (length (pieces_of (forest all))) then 1 else 0
   claims u = claimed_once (length (units_of (forest all))) run.shared.drawn run.shared.claims u ∙ ap (λ n. if nat_lt u n then 1 else 0) (length-map (pieces_of (forest all)) (λ x. number_of x.tree))
@@ -253,9 +247,9 @@ module _ (all : List NumberedNode) (table : List Descriptor) (workers : ℕ) (r 
 
     gives_nothing : (u : ℕ) → u ≢ lone_unit.position → gives u ≡ []
     gives_nothing u n = ⊎_elim
-        (λ x. gives_shown u x.0 x.1 ∙ lone_unit.others u x.0 x.1 n)
-        (λ none. gives_none u none.0)
-        (some_below units u)
+        (λ x. gives_shown u x.0 x.2 ∙ lone_unit.others u x.0 x.2 n)
+        (λ none. gives_none u none.1)
+        (slice_get_cases units u).1
 
     seated : IsSeat lone_unit.position run.shared.drawn
     seated = seat lone_unit.position run.shared.drawn (claimed (nat_lt lone_unit.position (length units)) _ (claims lone_unit.position))
@@ -280,18 +274,17 @@ module _ (all : List NumberedNode) (table : List Descriptor) (workers : ℕ) (r 
     units_give : shown all q (flat_map unit_moves (parts_below true (forest all))) ≡ gives lone_unit.position
     units_give =
         sym (pieces_shown all q 0 (parts_below true (forest all))) ∙ (lone_is (shows all q) units lone_unit.position lone_unit.others ∙ ⊎_elim
-        (λ x. ap (at (shows all q)) x.1 ∙ sym (gives_shown lone_unit.position x.0 x.1))
-        (λ none. ap (at (shows all q)) none.0 ∙ sym (gives_none lone_unit.position none.0))
-        (some_below units lone_unit.position))
+        (λ x. ap (at (shows all q)) x.2 ∙ sym (gives_shown lone_unit.position x.0 x.2))
+        (λ none. ap (at (shows all q)) none.1 ∙ sym (gives_none lone_unit.position none.1))
+        (slice_get_cases units lone_unit.position).1)
 
     copied : copies (times_in lone_unit.position run.shared.drawn) (gives lone_unit.position) ≡ gives lone_unit.position
     copied = copies_by _ _ (gives lone_unit.position) (claims lone_unit.position) ∙ ⊎_elim
-        (λ x. let l = slice_get_within units lone_unit.position x.0 x.1 in
-        let lt : nat_lt lone_unit.position (length units) ≡ true = grind (arith, tests, l) in
+        (λ x. let lt : nat_lt lone_unit.position (length units) ≡ true = grind (arith, tests, x.1) in
         ap (λ b. copies (if b then 1 else 0) (gives lone_unit.position)) lt ∙ append-nil (gives lone_unit.position))
-        (λ none. let lt : nat_lt lone_unit.position (length units) ≡ false = grind (arith, tests, none.1) in
-        ap (λ b. copies (if b then 1 else 0) (gives lone_unit.position)) lt ∙ sym (gives_none lone_unit.position none.0))
-        (some_below units lone_unit.position)
+        (λ none. let lt : nat_lt lone_unit.position (length units) ≡ false = grind (arith, tests, none.0) in
+        ap (λ b. copies (if b then 1 else 0) (gives lone_unit.position)) lt ∙ sym (gives_none lone_unit.position none.1))
+        (slice_get_cases units lone_unit.position).1
 
     -- what a run says of a chain is what the plan's script says of it
     pub chain_law : about q (labels r) ≡ about q (plan_labels all)

@@ -12,8 +12,8 @@ use Rattle.tk_plan.specs.declared.scripts.steps.Act.TheVariants.{File, Finish, R
 use Rattle.tk_ids.specs.IdText.{SegmentView}
 use Rattle.tk_report_text.proofs.Ids.{same_decides}
 use Rattle.tk_report_text.specs.Labels.{Label, same_id}
-use Rattle.tk_plan_laws.proofs.ChainCuts.{shown_none_below, shown_none_in, shown_not, shown_opening}
-use Rattle.tk_plan_laws.proofs.Lists.{Each, at_most_tail, count-append, each-append, each_split, none_left, none_tail, zero_or}
+use Rattle.tk_plan_laws.proofs.ChainCuts.{none_head, shown_none_below, shown_none_in, shown_not, shown_opening}
+use Rattle.tk_plan_laws.proofs.Lists.{Each, at_most_tail, count-append, each-append, each_split, none_left, zero_or}
 use Rattle.tk_plan_laws.proofs.MoveLabels.{AreBuilt, HasNone, IsBuilt, IsChain, IsChainBelow, Move, act_label, count_ids, move_label, moves_in, of_publications, own_moves, own_run, publications, shown, shown-append, shown_more}
 use Rattle.tk_plan_laws.proofs.Orders.{followed-append, followed_end, followed_none, precedes-append, precedes_here, precedes_none}
 use Rattle.tk_plan_laws.proofs.SameReports.{chain_one_below, first_one, rest_one, rest_zero}
@@ -115,10 +115,6 @@ script_finish all p s = of_forest all p s (λ l. is_followed (is_of (p ++ s ∷ 
 abbrev pub either : List SegmentView → List SegmentView → List SegmentView → Bool
 either p c i = same_id i p || same_id i c
 
-none_head : (b : Bool) (n : ℕ) → (if b then 1 + n else n) ≡ 0 → b ≡ false
-none_head true n h = let no : ⊥ = omega (arith, h) in absurd no
-none_head false n h = refl
-
 few_more : (a b : Bool) (x y z : ℕ) → x ≤ y + z → (if a || b then 1 + x else x) ≤ (if a then 1 + y else y) + (if b then 1 + z else z)
 few_more true true x y z h = omega (arith, h)
 few_more true false x y z h = omega (arith, h)
@@ -148,9 +144,9 @@ module _ (all : List NumberedNode) where
   pair_none : (p c : List SegmentView) (ps : List NumberedNode) → with_id p ps ≡ 0 → with_id c ps ≡ 0 → HasNone all (either p c) ps
   pair_none p c [] h g = refl
   pair_none p c (x ∷ xs) h g =
-      let own = id_at all x.number in
-      let rest = pair_none p c xs (none_tail (same_id own p) (with_id p xs) h) (none_tail (same_id own c) (with_id c xs) g) in
-      rw (none_head (same_id own p) (with_id p xs) h, none_head (same_id own c) (with_id c xs) g) rest
+      let first = none_head all (λ j. same_id j p) x.number (with_id p xs) h in
+      let second = none_head all (λ j. same_id j c) x.number (with_id c xs) g in
+      rw (first.0, second.0) (pair_none p c xs first.1 second.1)
 
   pair_few : (p c : List SegmentView) (ps : List NumberedNode) → count_ids all (either p c) ps ≤ with_id p ps + with_id c ps
   pair_few p c [] = omega arith
@@ -161,8 +157,8 @@ module _ (all : List NumberedNode) where
       parent_in : (above : List SegmentView) (t : Tree) → IsBuilt all above t → above ≢ p → with_id p (flat t) ≡ 0 → with_id (p ++ s ∷ []) (flat t) ≡ 0
       parent_in above (tree n k f) b d z =
           let h = not_eq (id_at all k) (p ++ s ∷ []) (λ e. d (snoc_same above p n.segment s (sym b.0 ∙ e))) in
-          let g = none_head (same_id (id_at all k) p) (with_id p (flats f)) z in
-          rw h (parent_in_below (id_at all k) f b.1 (eq_not (id_at all k) p g) (none_tail (same_id (id_at all k) p) (with_id p (flats f)) z))
+          let g = none_head all (λ j. same_id j p) k (with_id p (flats f)) z in
+          rw h (parent_in_below (id_at all k) f b.1 (eq_not (id_at all k) p g.0) g.1)
 
       parent_in_below : (above : List SegmentView) (f : Forest) → AreBuilt all above f → above ≢ p → with_id p (flats f) ≡ 0 → with_id (p ++ s ∷ []) (flats f) ≡ 0
       parent_in_below above no_trees b d z = refl

@@ -22,9 +22,7 @@ use Rattle.tk_record.specs.Entries.{of_kind, desc_in, with_entry}
 use Rattle.tk_record.specs.Mixing.{IsWorkerOf, of_worker}
 use Rattle.tk_query_lifecycle.specs.Lifecycle.{is_event, has_event, runs, HasId, first_entries}
 use Rattle.tk_query_lifecycle.specs.KeepsLifecycle.{steps_of, IsWhole, KeepsLifecycle}
-use Rattle.tk_query_lifecycle.proofs.FirstEntries.{first_more}
-use Rattle.tk_query_lifecycle.proofs.IdMapLemmas.{ids_first, known_or_new}
-use Rattle.tk_query_lifecycle.proofs.ListLemmas.{there}
+use Rattle.tk_query_lifecycle.proofs.KeepLemmas.{unique_ids}
 use Rattle.tk_query_lifecycle.proofs.StepLemmas.{has, has_steps, runs_steps, steps_append, to_whole, Whole, none, skipped, ran}
 use Rattle.tk_queue_session.specs.Emission.{entry_by, entries_by, is_dynamic, registrations}
 use Rattle.tk_engine_runs.specs.Claims.{Claims, IsStrictlyIncreasing, once_below, times}
@@ -124,22 +122,6 @@ has_its_key kind key es h =
 runs_parts : (key : ℕ) (es : List Entry) → runs key es ≡ true → (has_event Started key es ≡ true) × (has_event Finished key es ≡ false)
 runs_parts key es h = let both = and_parts (has_event Started key es) (not (has_event Finished key es)) h in (both.0, not-true (has_event Finished key es) both.1)
 
--- where a record keeps the lifecycle, no other key gets the id of one of the table
-static_only : (r : Recorded) → AreDifferent r.table → KeepsLifecycle r → (id : List SegmentView) (key : ℕ) → ((es : List Entry) → HasId (record_of r.table es) key id)
-    → (n : ℕ) → n ≤ length r.entries → (other : ℕ) → HasId (first_entries n r) other id → other ≡ key
-static_only r different keeps id key its zero le other h = (ids_first r.table [] refl different).unique id other key h (its [])
-static_only r different keeps id key its (suc n) le other h =
-    let e = there r.entries n (omega (arith, le)) in
-    let past = first_entries n r in
-    let one : suc n ≡ n + 1 = omega arith in
-    let after : first_entries (suc n) r ≡ with_entry past e.0 = ap (λ m. first_entries m r) one ∙ sym (first_more r n e.0 e.1) in
-    let new = subst (λ x. HasId x other id) after h in
-    ⊎_elim {C = other ≡ key}
-    (λ (old : HasId past other id). static_only r different keeps id key its n (omega (arith, le)) other old)
-    (λ (is : (of_kind Dynamic e.0 ≡ true) × (e.0.event.key ≡ other)).
-    absurd (keeps.ids n e.0 e.1 (record { dynamic = is.0; id = id; registered = subst (λ m. HasId (with_entry past e.0) m id) (sym is.1) new; earlier = key; known = its (take n r.entries) })))
-    (known_or_new past e.0 other id new)
-
 -- P are keys of the table that start in the entries before and finish in those after, where no other key has an event
 module _ (table : List Descriptor) (before mid after : List Entry) (P : ℕ → Type 0) (static : (key : ℕ) → P key → key < length table)
     (own : (p : ℕ) (e : Entry) → slice_get (before ++ after) p ≡ Some e → P e.event.key × (of_kind Dynamic e ≡ false))
@@ -201,7 +183,7 @@ module _ (table : List Descriptor) (before mid after : List Entry) (P : ℕ → 
       let there = in_second (before ++ mid) after p e at in
       let running = keeps.below there.0 e there.1 id (always (take there.0 all.entries ++ e ∷ [])) longer in
       let within = slice_get_within all.entries there.0 e there.1 in
-      let one : running.0 ≡ parent.0 = static_only all different keeps (parent_of id) parent.0 parent.2 there.0 (omega (arith, within)) running.0 running.1 in
+      let one : running.0 ≡ parent.0 = unique_ids all different keeps.ids there.0 (omega (arith, within)) (parent_of id) running.0 parent.0 running.1 (parent.2 (take there.0 all.entries)) in
       (parent.0, parent.2 (before ++ take p after), runs_without parent.0 p parent.1 (subst (λ k. runs k (before ++ mid ++ take p after) ≡ true) one (subst (λ l. runs running.0 l ≡ true) there.2 running.2)))
 
   -- each key is whole without the middle
