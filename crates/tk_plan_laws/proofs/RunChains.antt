@@ -1,6 +1,7 @@
 -- On a chain a run of a plan is the plan's script.
 use Rattle.std.proofs.Common.{◌≡◌, ◌≢◌, ◌≤◌, ◌<◌, ℕ, zero, suc, ◌+◌, ◌*◌, ◌⊎◌, Bool, true, false, List, [], ◌∷◌, ◌++◌, map, length, flat_map, Some, None, slice_get, nat_lt, nat_eq, count_by, sum_by, refl, sym, ap, ap₂, ◌∙◌, arith, tests, subst, append_assoc, append-nil, if◌then◌else◌, inl, inr, ⊎_elim}
 use Rattle.std.specs.Option.{option_or}
+use Rattle.std.proofs.lemmas.Bool.{cases_order}
 use Rattle.std.proofs.lemmas.List.{map-append, length-map}
 use Rattle.std.proofs.lemmas.List.Elements.{filter-append}
 use Rattle.std.proofs.lemmas.Grind.{flat_map-append}
@@ -69,15 +70,14 @@ claimed_once n lists c u = times_in_is u lists ∙ c.once u
 at_most_once : (n : ℕ) (lists : List (List ℕ)) → Claims lists n → (i : ℕ) (us : List ℕ) → slice_get lists i ≡ Some us → (u : ℕ) → times u us ≤ 1
 at_most_once n lists c i us e u = once_of (nat_lt u n) (times_in u lists) (times u us) (claimed_once n lists c u) (times_within u lists i us e)
 
-which : (v w : ℕ) → v ≢ w → (v < w) ⊎ (w < v)
-which v w d = elim (nat_lt v w) as (λ b. b ≡ nat_lt v w → (v < w) ⊎ (w < v))
-    [ true ↦ (λ e. inl (grind (arith, tests, e))) | false ↦ (λ e. inr (grind (arith, tests, e, d))) ] refl
-
 key_of_other : (w v j n : ℕ) → j < n → n ≤ 65536 → v ≢ w → (65536 * (w + 1) + 0 + j < 65536 * (v + 1) + 0) ⊎ (65536 * (v + 1) + 0 + 65536 ≤ 65536 * (w + 1) + 0 + j)
 key_of_other w v j n h g d = ⊎_elim
+    (λ e. absurd (d e))
+    (λ o. ⊎_elim
     (λ l. inr (let x : 65536 * (v + 1) + 0 + 65536 ≤ 65536 * (w + 1) + 0 + j = omega (arith, l) in x))
     (λ l. inl (let x : 65536 * (w + 1) + 0 + j < 65536 * (v + 1) + 0 = omega (arith, l, h, g) in x))
-    (which v w d)
+    o)
+    (cases_order v w)
 
 few_end : (a b : ℕ) → a ≤ b → b ≤ 65536 → a ≤ 65536
 few_end a b h g = omega (arith, h, g)

@@ -20,6 +20,7 @@ use Rattle.tk_query_lifecycle.specs.Lifecycle.{HasId, first_entries, has_event, 
 use Rattle.tk_query_lifecycle.specs.KeepsLifecycle.{IsWhole, KeepsLifecycle, steps_of}
 use Rattle.tk_query_lifecycle.specs.NeverRan.{EachDueKeyRuns, NeverRuns, ParentSucceeds}
 use Rattle.tk_query_lifecycle.proofs.FirstEntries.{desc_first, its_id}
+use Rattle.tk_query_lifecycle.proofs.IdMapLemmas.{found_static}
 use Rattle.tk_query_lifecycle.proofs.KeepLemmas.{any_at, any_from}
 use Rattle.tk_query_lifecycle.proofs.NeverRanLemmas.{turn}
 use Rattle.tk_query_lifecycle.proofs.StepLemmas.{has, has_run_steps, has_steps}
@@ -151,9 +152,7 @@ module _ (r : Recorded) (is : IsRecord r) (keeps : KeepsLifecycle r) where
 
   module _ (different : AreDifferent r.table) where
     static_in : (key : ℕ) (id : List SegmentView) → slice_get (ids_of r.table) key ≡ Some id → (es : List Entry) → HasId (let x : Recorded = record { table = r.table; entries = es } in x) key id
-    static_in key id its es =
-        let d = of_map (λ (x : Descriptor). x.id) r.table key id its in
-        record { descriptor = d.0; described = ap (λ o. option_or o (desc_in es key)) d.1; id_is = d.2 }
+    static_in key id its es = found_static (record { table = r.table; entries = es }) r.table id key refl its
 
     -- no other key has the id of a static one
     static_key : (id : List SegmentView) (key other : ℕ) → slice_get (ids_of r.table) key ≡ Some id → HasId r other id → other ≡ key
