@@ -102,13 +102,13 @@ module _ (all : List NumberedNode) (q : List SegmentView → Bool) where
   -- ---- cutting
 
   -- what the parts show is what they show where they begin, then in the units, then where they end
-  abbrev pub IsCut : List Part → Type 0
-  IsCut ps = shown all q (flat_map moves_of ps) ≡ shown all q (flat_map begin_moves ps) ++ (shown all q (flat_map unit_moves ps) ++ shown all q (flat_map end_moves ps))
+  abbrev pub ShowsInTurn : List Part → Type 0
+  ShowsInTurn ps = shown all q (flat_map moves_of ps) ≡ shown all q (flat_map begin_moves ps) ++ (shown all q (flat_map unit_moves ps) ++ shown all q (flat_map end_moves ps))
 
   shown_parts : (g : Part → List Move) (xs ys : List Part) → shown all q (flat_map g (xs ++ ys)) ≡ shown all q (flat_map g xs) ++ shown all q (flat_map g ys)
   shown_parts g xs ys = ap (shown all q) (flat_map-append g xs ys) ∙ shown-append all q (flat_map g xs) (flat_map g ys)
 
-  cut-append : (xs ys : List Part) → IsCut xs → IsCut ys → ((shown all q (flat_map moves_of xs) ≡ []) ⊎ (shown all q (flat_map moves_of ys) ≡ [])) → IsCut (xs ++ ys)
+  cut-append : (xs ys : List Part) → ShowsInTurn xs → ShowsInTurn ys → ((shown all q (flat_map moves_of xs) ≡ []) ⊎ (shown all q (flat_map moves_of ys) ≡ [])) → ShowsInTurn (xs ++ ys)
   cut-append xs ys h g e =
       shown_parts moves_of xs ys ∙ (ap₂ (λ u v. u ++ v) h g
       ∙ (shuffle (shown all q (flat_map begin_moves xs)) (shown all q (flat_map unit_moves xs)) (shown all q (flat_map end_moves xs))
@@ -116,7 +116,7 @@ module _ (all : List NumberedNode) (q : List SegmentView → Bool) where
       (⊎_elim (λ n. inl (sym h ∙ n)) (λ n. inr (sym g ∙ n)) e)
       ∙ sym (ap₂ (λ u v. u ++ v) (shown_parts begin_moves xs ys) (ap₂ (λ u v. u ++ v) (shown_parts unit_moves xs ys) (shown_parts end_moves xs ys)))))
 
-  cut_open : (n : Node) (k : ℕ) (ps : List Part) → IsCut ps → IsCut (spine_begins n k ∷ (ps ++ spine_ends n k ∷ []))
+  cut_open : (n : Node) (k : ℕ) (ps : List Part) → ShowsInTurn ps → ShowsInTurn (spine_begins n k ∷ (ps ++ spine_ends n k ∷ []))
   cut_open n k ps h =
       let ends = spine_ends n k ∷ [] in
       let o = shown all q (opening n k) in
@@ -141,13 +141,13 @@ module _ (all : List NumberedNode) (q : List SegmentView → Bool) where
       shown_parts moves_of (parts b t) (parts_below b f) ∙ ap₂ (λ x y. x ++ y) (nothing b t e.0) (nothing_below b f e.1)
 
   mutual
-    cut : (b : Bool) (t : Tree) → IsChain all q t → IsCut (parts b t)
+    cut : (b : Bool) (t : Tree) → IsChain all q t → ShowsInTurn (parts b t)
     cut b (tree n k f) c =
         let inner = cut_open n k (parts_below false f) (cut_below false f c) in
-        elim (on_spine b n f) as (λ s. IsCut (if s then spine_begins n k ∷ (parts_below false f ++ spine_ends n k ∷ []) else whole_unit (tree n k f) ∷ []))
+        elim (on_spine b n f) as (λ s. ShowsInTurn (if s then spine_begins n k ∷ (parts_below false f ++ spine_ends n k ∷ []) else whole_unit (tree n k f) ∷ []))
         [ true ↦ inner | false ↦ sym (append-nil (shown all q (moves (tree n k f) ++ []))) ]
 
-    pub cut_below : (b : Bool) (f : Forest) → IsChainBelow all q f → IsCut (parts_below b f)
+    pub cut_below : (b : Bool) (f : Forest) → IsChainBelow all q f → ShowsInTurn (parts_below b f)
     cut_below b no_trees c = refl
     cut_below b (more t f) (inl c) = cut-append (parts b t) (parts_below b f) (cut b t (chain_none t c.0)) (cut_below b f c.1) (inl (nothing b t c.0))
     cut_below b (more t f) (inr c) = cut-append (parts b t) (parts_below b f) (cut b t c.0) (cut_below b f (chain_none_below f c.1)) (inr (nothing_below b f c.1))
@@ -164,7 +164,7 @@ module _ (all : List NumberedNode) (q : List SegmentView → Bool) where
       ap (λ l. shown all q (moves t) ++ l) (pieces_shown (i + length (moves t)) ps) ∙ sym (shown-append all q (moves t) (flat_map unit_moves ps))
   pieces_shown i (spine_ends n k ∷ ps) = pieces_shown (i + length (moves_of (spine_ends n k))) ps
 
-  none_of_pieces : (i : ℕ) (ps : List Part) → IsCut ps → shown all q (flat_map moves_of ps) ≡ [] → AllNil shows (from_each piece i ps)
+  none_of_pieces : (i : ℕ) (ps : List Part) → ShowsInTurn ps → shown all q (flat_map moves_of ps) ≡ [] → AllNil shows (from_each piece i ps)
   none_of_pieces i ps h n =
       all_nil shows (from_each piece i ps)
       (pieces_shown i ps ∙ nil_left (shown all q (flat_map unit_moves ps)) (shown all q (flat_map end_moves ps)) (nil_right (shown all q (flat_map begin_moves ps)) _ (sym h ∙ n)))

@@ -19,7 +19,7 @@ use Rattle.tk_plan.specs.declared.trees.nodes.Node.{Node}
 use Rattle.tk_plan.specs.declared.scripts.steps.Act.TheVariants.{Finish, Skip, Start}
 use Rattle.tk_report_text.specs.Labels.{Label, id_in, label, labels, name, same_id, same_kind}
 use Rattle.tk_report_text.proofs.Ids.{same_decides}
-use Rattle.tk_plan_laws.specs.Listening.{IsOnce, finishes, is_of, skips, starts}
+use Rattle.tk_plan_laws.specs.Listening.{finishes, is_of, skips, starts}
 use Rattle.tk_plan_laws.specs.Scripts.{IsRunOf, id_at}
 use Rattle.tk_plan_laws.proofs.RecordIds.{label_at, labelled, last_segment}
 use Rattle.tk_plan_laws.proofs.RecordLifecycle.{run_described, run_one_key}

@@ -59,56 +59,49 @@ InRange s d ps p =
     ((p.node.is_static ≡ true) × (s ≤ p.number) × (p.number < s + length (of_kind true ps)))
     ⊎ ((p.node.is_static ≡ false) × (d ≤ p.number))
 
-in_range_by : (b : Bool) (q : NumberedNode) (ps : List NumberedNode) (s d i : ℕ) (p : NumberedNode) → q.node.is_static ≡ b
-    → ((s d i : ℕ) → slice_get (numbered_from s d ps) i ≡ Some p → InRange s d ps p)
-    → slice_get (cond b (with_number s q ∷ numbered_from (s + 1) d ps) (with_number d q ∷ numbered_from s (d + 1) ps)) i ≡ Some p
-    → ((p.node.is_static ≡ true) × (s ≤ p.number) × (p.number < s + length (cond b (q.node ∷ of_kind true ps) (of_kind true ps)))) ⊎ ((p.node.is_static ≡ false) × (d ≤ p.number))
-in_range_by true q ps s d zero p f next e =
-    let same : with_number s q ≡ p = same_Some _ _ e in
-    let number : s ≡ p.number = ap (λ w. w.number) same in
-    inl (sym (ap (λ w. w.node.is_static) same) ∙ f, omega (arith, number), omega (arith, number))
-in_range_by true q ps s d (suc i) p f next e = ⊎_elim
-    (λ h. inl (h.0, omega (arith, h.1), omega (arith, h.2)))
-    (λ h. inr h)
-    (next (s + 1) d i e)
-in_range_by false q ps s d zero p f next e =
-    let same : with_number d q ≡ p = same_Some _ _ e in
-    let number : d ≡ p.number = ap (λ w. w.number) same in
-    inr (sym (ap (λ w. w.node.is_static) same) ∙ f, omega (arith, number))
-in_range_by false q ps s d (suc i) p f next e = ⊎_elim
-    (λ h. inl h)
-    (λ h. inr (h.0, omega (arith, h.1)))
-    (next s (d + 1) i e)
-
-in_range : (ps : List NumberedNode) (s d i : ℕ) (p : NumberedNode) → slice_get (numbered_from s d ps) i ≡ Some p → InRange s d ps p
-in_range [] s d i p e = cc
-in_range (q ∷ ps) s d i p e = in_range_by q.node.is_static q ps s d i p refl (λ s d i e. in_range ps s d i p e) e
+-- the number of a node lies there, and its id is found by it
+abbrev IsFound : ℕ → ℕ → List NumberedNode → List (List SegmentView) → NumberedNode → List SegmentView → Type 0
+IsFound s d ps is p id = InRange s d ps p × (id_of (numbered_from s d ps) is p.number ≡ id)
 
 found_by : (b : Bool) (q : NumberedNode) (ps : List NumberedNode) (j : List SegmentView) (is : List (List SegmentView)) (s d i : ℕ) (p : NumberedNode) (id : List SegmentView)
-    → ((s d i : ℕ) → s + length (of_kind true ps) ≤ d → slice_get (numbered_from s d ps) i ≡ Some p → slice_get is i ≡ Some id → id_of (numbered_from s d ps) is p.number ≡ id)
+    → q.node.is_static ≡ b
+    → ((s d i : ℕ) → s + length (of_kind true ps) ≤ d → slice_get (numbered_from s d ps) i ≡ Some p → slice_get is i ≡ Some id → IsFound s d ps is p id)
     → s + length (cond b (q.node ∷ of_kind true ps) (of_kind true ps)) ≤ d
     → slice_get (cond b (with_number s q ∷ numbered_from (s + 1) d ps) (with_number d q ∷ numbered_from s (d + 1) ps)) i ≡ Some p → slice_get (j ∷ is) i ≡ Some id
-    → id_of (cond b (with_number s q ∷ numbered_from (s + 1) d ps) (with_number d q ∷ numbered_from s (d + 1) ps)) (j ∷ is) p.number ≡ id
-found_by true q ps j is s d zero p id next l e g =
-    let number : s ≡ p.number = ap (λ w. w.number) (same_Some _ _ e) in
-    let own : (s == p.number) ≡ true = grind (arith, tests, number) in
-    ap (λ b. if b then j else id_of (numbered_from (s + 1) d ps) is p.number) own ∙ same_Some _ _ g
-found_by true q ps j is s d (suc i) p id next l e g =
-    let differ : (s == p.number) ≡ false = ⊎_elim (λ h. grind (arith, tests, h.1)) (λ h. grind (arith, tests, h.1, l)) (in_range ps (s + 1) d i p e) in
-    ap (λ b. if b then j else id_of (numbered_from (s + 1) d ps) is p.number) differ ∙ next (s + 1) d i (omega (arith, l)) e g
-found_by false q ps j is s d zero p id next l e g =
-    let number : d ≡ p.number = ap (λ w. w.number) (same_Some _ _ e) in
-    let own : (d == p.number) ≡ true = grind (arith, tests, number) in
-    ap (λ b. if b then j else id_of (numbered_from s (d + 1) ps) is p.number) own ∙ same_Some _ _ g
-found_by false q ps j is s d (suc i) p id next l e g =
-    let differ : (d == p.number) ≡ false = ⊎_elim (λ h. grind (arith, tests, h.2, l)) (λ h. grind (arith, tests, h.1)) (in_range ps s (d + 1) i p e) in
-    ap (λ b. if b then j else id_of (numbered_from s (d + 1) ps) is p.number) differ ∙ next s (d + 1) i (omega (arith, l)) e g
+    → (((p.node.is_static ≡ true) × (s ≤ p.number) × (p.number < s + length (cond b (q.node ∷ of_kind true ps) (of_kind true ps)))) ⊎ ((p.node.is_static ≡ false) × (d ≤ p.number)))
+    × (id_of (cond b (with_number s q ∷ numbered_from (s + 1) d ps) (with_number d q ∷ numbered_from s (d + 1) ps)) (j ∷ is) p.number ≡ id)
+found_by true q ps j is s d zero p id f next l e g =
+    let same : with_number s q ≡ p = same_Some _ _ e in
+    let number : s ≡ p.number = ap (λ w. w.number) same in
+    let own : (s == p.number) ≡ true = grind (arith, tests, number) in (
+      inl (sym (ap (λ w. w.node.is_static) same) ∙ f, omega (arith, number), omega (arith, number)),
+      ap (λ b. if b then j else id_of (numbered_from (s + 1) d ps) is p.number) own ∙ same_Some _ _ g,
+    )
+found_by true q ps j is s d (suc i) p id f next l e g =
+    let more = next (s + 1) d i (omega (arith, l)) e g in
+    let differ : (s == p.number) ≡ false = ⊎_elim (λ h. grind (arith, tests, h.1)) (λ h. grind (arith, tests, h.1, l)) more.0 in (
+      ⊎_elim (λ h. inl (h.0, omega (arith, h.1), omega (arith, h.2))) (λ h. inr h) more.0,
+      ap (λ b. if b then j else id_of (numbered_from (s + 1) d ps) is p.number) differ ∙ more.1,
+    )
+found_by false q ps j is s d zero p id f next l e g =
+    let same : with_number d q ≡ p = same_Some _ _ e in
+    let number : d ≡ p.number = ap (λ w. w.number) same in
+    let own : (d == p.number) ≡ true = grind (arith, tests, number) in (
+      inr (sym (ap (λ w. w.node.is_static) same) ∙ f, omega (arith, number)),
+      ap (λ b. if b then j else id_of (numbered_from s (d + 1) ps) is p.number) own ∙ same_Some _ _ g,
+    )
+found_by false q ps j is s d (suc i) p id f next l e g =
+    let more = next s (d + 1) i (omega (arith, l)) e g in
+    let differ : (d == p.number) ≡ false = ⊎_elim (λ h. grind (arith, tests, h.2, l)) (λ h. grind (arith, tests, h.1)) more.0 in (
+      ⊎_elim (λ h. inl h) (λ h. inr (h.0, omega (arith, h.1))) more.0,
+      ap (λ b. if b then j else id_of (numbered_from s (d + 1) ps) is p.number) differ ∙ more.1,
+    )
 
 found : (ps : List NumberedNode) (is : List (List SegmentView)) (s d i : ℕ) (p : NumberedNode) (id : List SegmentView) → s + length (of_kind true ps) ≤ d
-    → slice_get (numbered_from s d ps) i ≡ Some p → slice_get is i ≡ Some id → id_of (numbered_from s d ps) is p.number ≡ id
+    → slice_get (numbered_from s d ps) i ≡ Some p → slice_get is i ≡ Some id → IsFound s d ps is p id
 found [] is s d i p id l e g = cc
 found (q ∷ ps) [] s d i p id l e g = cc
-found (q ∷ ps) (j ∷ is) s d i p id l e g = found_by q.node.is_static q ps j is s d i p id (λ s d i l e g. found ps is s d i p id l e g) l e g
+found (q ∷ ps) (j ∷ is) s d i p id l e g = found_by q.node.is_static q ps j is s d i p id refl (λ s d i l e g. found ps is s d i p id l e g) l e g
 
 -- ---- counts
 
@@ -248,10 +241,12 @@ module _ (all : List NumberedNode) (table : List Descriptor) (p : IsPlanned all 
   unfolding IsForest
   trees = p.trees
 
+  found_at : (i : ℕ) (q : NumberedNode) (id : List SegmentView) → slice_get all i ≡ Some q → slice_get (ids_below [] (forest all)) i ≡ Some id
+      → IsFound 0 (length (of_kind true all)) all (ids_below [] (forest all)) q id
+  found_at i q id e g = found all (ids_below [] (forest all)) 0 (length (of_kind true all)) i q id (omega arith) (ap (λ ps. slice_get ps i) (sym numbers) ∙ e) g
+
   id_found : (i : ℕ) (q : NumberedNode) (id : List SegmentView) → slice_get all i ≡ Some q → slice_get (ids_below [] (forest all)) i ≡ Some id → id_at all q.number ≡ id
-  id_found i q id e g =
-      ap (λ ps. id_of ps (ids_below [] (forest all)) q.number) numbers
-      ∙ found all (ids_below [] (forest all)) 0 (length (of_kind true all)) i q id (omega arith) (ap (λ ps. slice_get ps i) (sym numbers) ∙ e) g
+  id_found i q id e g = ap (λ ps. id_of ps (ids_below [] (forest all)) q.number) numbers ∙ (found_at i q id e g).1
 
   as_many : length all ≡ length (ids_below [] (forest all))
   as_many = ap (λ (ps : List NumberedNode). length ps) trees ∙ ids_below-length [] (forest all)
@@ -272,7 +267,7 @@ module _ (all : List NumberedNode) (table : List Descriptor) (p : IsPlanned all 
         dynamic = λ s. ⊎_elim
             (λ h. let bad : true ≡ false = sym h.0 ∙ s in cc)
             (λ h. omega (arith, h.1, len))
-            (in_range all 0 (length (of_kind true all)) i q (ap (λ ps. slice_get ps i) (sym numbers) ∙ e));
+            (found_at i q id.0 e id.1).0;
         apart = λ s j g. facts.dynamic s (j, g ∙ ap Some id_is);
       }
 

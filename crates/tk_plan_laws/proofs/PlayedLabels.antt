@@ -1,5 +1,5 @@
 -- What is played gives the labels of its steps.
-use Rattle.std.proofs.Common.{◌≡◌, ℕ, zero, suc, ◌+◌, nat_lt, true, false, List, [], ◌∷◌, ◌++◌, map, length, flat_map, Some, slice_get, refl, sym, ap, ap₂, ◌∙◌, append_assoc, if◌then◌else◌, inl, inr, ⊎_elim, arith, tests}
+use Rattle.std.proofs.Common.{◌≡◌, ℕ, ◌+◌, nat_lt, true, false, List, [], ◌∷◌, ◌++◌, map, length, flat_map, Some, slice_get, refl, sym, ap, ap₂, ◌∙◌, append_assoc, if◌then◌else◌, inl, inr, ⊎_elim, arith, tests}
 use Rattle.std.proofs.lemmas.Bool.{cases_Bool}
 use Rattle.std.proofs.lemmas.List.{map-append}
 use Rattle.std.proofs.lemmas.Option.{slice_get_within}

@@ -21,7 +21,7 @@ use Rattle.tk_ids.specs.IdText.{SegmentView}
 use Rattle.tk_ids.specs.Table.{ids_of}
 use Rattle.tk_ids.specs.declared.descriptors.Descriptor.{Descriptor}
 use Rattle.tk_plan_laws.proofs.ChainCuts.{cut_below, one_part_below, pieces_shown, shows, unit_moves}
-use Rattle.tk_plan_laws.proofs.Lists.{IsLone, IsSeat, at, copies, copies_by, drawn_is, lone, lone_is, seat, times, times_in}
+use Rattle.tk_plan_laws.proofs.Lists.{IsLone, all_drawn, at, copies, copies_by, list_gives, lone, lone_is, one_drawn, times, times_in}
 use Rattle.tk_plan_laws.proofs.MoveLabels.{IsChainBelow, about, drawn_ids, ids_emitted, labels_stamped, plan_labels, shown, step_label}
 use Rattle.tk_plan_laws.proofs.PlanTrees.{IsPlanTree}
 use Rattle.tk_plan_laws.proofs.PlayedLabels.{get_prefix, labels_begin, labels_end, labels_played}
@@ -251,25 +251,29 @@ module _ (all : List NumberedNode) (table : List Descriptor) (workers : ℕ) (r 
         (λ none. gives_none u none.1)
         (slice_get_cases units u).1
 
-    seated : IsSeat lone_unit.position run.shared.drawn
-    seated = seat lone_unit.position run.shared.drawn (claimed (nat_lt lone_unit.position (length units)) _ (claims lone_unit.position))
+    -- the list of the worker that drew that unit
+    lone_list : IsLone (list_gives gives lone_unit.position gives_nothing) run.shared.drawn
+    lone_list =
+        lone (list_gives gives lone_unit.position gives_nothing) run.shared.drawn
+        (one_drawn gives lone_unit.position gives_nothing run.shared.drawn (claimed (nat_lt lone_unit.position (length units)) _ (claims lone_unit.position)))
 
-    worker_nothing : (v : ℕ) → v ≢ seated.seat + 1 → flat_map tells_about (of_worker v run.mid) ≡ []
+    worker_nothing : (v : ℕ) → v ≢ lone_list.position + 1 → flat_map tells_about (of_worker v run.mid) ≡ []
     worker_nothing zero n = ap (flat_map tells_about) (no_events workers 0 run.mid run.shared.mix.workers (inl refl))
     worker_nothing (suc v) n =
         let same : suc v ≡ v + 1 = omega arith in
         ap (λ w. flat_map tells_about (of_worker w run.mid)) same ∙ ⊎_elim
         (λ none. ap (flat_map tells_about) none.1)
-        (λ did. worker_gives v did.0 did.1 did.2 ∙ (drawn_is gives lone_unit.position did.0 gives_nothing
-        ∙ copies_by (times lone_unit.position did.0) 0 (gives lone_unit.position) (seated.others v did.0 did.1 (λ no. n (same ∙ ap (λ z. z + 1) no)))))
+        (λ did. worker_gives v did.0 did.1 did.2 ∙ lone_list.others v did.0 did.1 (λ no. n (same ∙ ap (λ z. z + 1) no)))
         (worker_did v)
 
     shared_gives : flat_map tells_about (events run.mid) ≡ copies (times_in lone_unit.position run.shared.drawn) (gives lone_unit.position)
-    shared_gives = mix_one tells_about (seated.seat + 1) run.mid worker_nothing ∙ ⊎_elim
-        (λ none. ap (flat_map tells_about) none.1 ∙ sym (copies_by (times_in lone_unit.position run.shared.drawn) 0 (gives lone_unit.position) (seated.none none.0)))
-        (λ did. worker_gives seated.seat did.0 did.1 did.2 ∙ (drawn_is gives lone_unit.position did.0 gives_nothing
-        ∙ copies_by (times lone_unit.position did.0) (times_in lone_unit.position run.shared.drawn) (gives lone_unit.position) (seated.here did.0 did.1)))
-        (worker_did seated.seat)
+    shared_gives =
+        let list = list_gives gives lone_unit.position gives_nothing in
+        mix_one tells_about (lone_list.position + 1) run.mid worker_nothing ∙ (⊎_elim
+        (λ none. ap (flat_map tells_about) none.1 ∙ sym (ap (at list) none.0))
+        (λ did. worker_gives lone_list.position did.0 did.1 did.2 ∙ sym (ap (at list) did.1))
+        (worker_did lone_list.position)
+        ∙ (sym (lone_is list run.shared.drawn lone_list.position lone_list.others) ∙ all_drawn gives lone_unit.position gives_nothing run.shared.drawn))
 
     units_give : shown all q (flat_map unit_moves (parts_below true (forest all))) ≡ gives lone_unit.position
     units_give =

@@ -1,5 +1,5 @@
 -- The events around the units keep the lifecycle by themselves.
-use Rattle.std.proofs.Common.{◌≡◌, ◌<◌, ◌≤◌, ℕ, zero, suc, ◌+◌, ◌⊎◌, ⊎_elim, inl, inr, true, false, not, cond, ◌&&◌, ◌==◌, List, [], ◌∷◌, ◌++◌, length, take, All, Some, slice_get, refl, sym, ap, ◌∙◌, subst, arith, eqb-true, nat_eq}
+use Rattle.std.proofs.Common.{◌≡◌, ◌<◌, ℕ, zero, suc, ◌+◌, ◌⊎◌, ⊎_elim, inl, inr, true, false, not, cond, ◌&&◌, ◌==◌, List, [], ◌∷◌, ◌++◌, length, take, All, Some, slice_get, refl, sym, ap, ◌∙◌, subst, arith, eqb-true, nat_eq}
 use Rattle.std.specs.Option.{option_or}
 use Rattle.std.proofs.lemmas.Bool.{true≢false, and_parts, and_from, or_left, or_parts, or_from, not-true, not_from_false}
 use Rattle.std.proofs.lemmas.Bool.Decides.{nat_tests}
@@ -18,9 +18,9 @@ use Rattle.tk_events.specs.declared.events.Event.{Event}
 use Rattle.tk_events.specs.declared.events.Entry.{Entry}
 use Rattle.tk_events.specs.Event.{is_lawful}
 use Rattle.tk_record.specs.Recorded.{Recorded}
-use Rattle.tk_record.specs.Entries.{of_kind, desc_in, with_entry}
+use Rattle.tk_record.specs.Entries.{of_kind, desc_in}
 use Rattle.tk_record.specs.Mixing.{IsWorkerOf, of_worker}
-use Rattle.tk_query_lifecycle.specs.Lifecycle.{is_event, has_event, runs, HasId, first_entries}
+use Rattle.tk_query_lifecycle.specs.Lifecycle.{is_event, has_event, runs, HasId}
 use Rattle.tk_query_lifecycle.specs.KeepsLifecycle.{steps_of, IsWhole, KeepsLifecycle}
 use Rattle.tk_query_lifecycle.proofs.KeepLemmas.{unique_ids}
 use Rattle.tk_query_lifecycle.proofs.StepLemmas.{has, has_steps, runs_steps, steps_append, to_whole, Whole, none, skipped, ran}

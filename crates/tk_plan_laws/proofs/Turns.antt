@@ -1,9 +1,8 @@
 -- In a record that keeps the lifecycle, in which each static key has its turn, no static key that is due is left out.
 use Rattle.std.proofs.Common.{◌≡◌, ℕ, zero, suc, ◌+◌, ◌-◌, ◌<◌, ◌≤◌, ◌⊎◌, ⊎_elim, inl, inr, true, false, ◌||◌, not, List, [], ◌∷◌, ◌++◌, length, take, Some, slice_get, if◌then◌else◌, refl, sym, ap, ◌∙◌, subst, arith, eq-eqb, eqb-true}
 use Rattle.std.specs.Prelude.{◌==◌}
-use Rattle.std.specs.Option.{option_or}
 use Rattle.std.proofs.lemmas.Bool.{true≢false, and_from, and_parts}
-use Rattle.std.proofs.lemmas.List.{length-append, length-take-le, take-take, take_all}
+use Rattle.std.proofs.lemmas.List.{length-append, length-take-le, take-take}
 use Rattle.std.proofs.lemmas.Option.{same_Some, slice_get_within}
 use Rattle.tk_ids.specs.IdText.{IsBelow, SegmentView, parent_of}
 use Rattle.tk_ids.specs.Table.{AreDifferent, ids_of}
@@ -13,7 +12,7 @@ use Rattle.tk_events.specs.declared.kinds.Kind.TheVariants.{Dynamic, File, Finis
 use Rattle.tk_events.specs.declared.payloads.Payload.{Payload}
 use Rattle.tk_events.specs.declared.events.Entry.{Entry}
 use Rattle.tk_events.specs.Event.{kind_code}
-use Rattle.tk_record.specs.Entries.{desc_in, of_kind, status_number, with_entry}
+use Rattle.tk_record.specs.Entries.{of_kind, status_number, with_entry}
 use Rattle.tk_record.specs.Record.{IsRecord}
 use Rattle.tk_record.specs.Recorded.{Recorded}
 use Rattle.tk_query_lifecycle.specs.Lifecycle.{HasId, first_entries, has_event, has_run, is_event}
