@@ -26,7 +26,7 @@ use Rattle.tk_report_text.specs.Labels.{same_id}
 use Rattle.tk_report_text.specs.Reports.{report_of_record}
 use Rattle.tk_plan_laws.specs.Scripts.{played, may, IsRunOf}
 use Rattle.tk_report_text.proofs.Ids.{same_decides}
-use Rattle.tk_plan_laws.proofs.PlanTrees.{models, trees_of}
+use Rattle.tk_plan_laws.proofs.PlanTrees.{plan_tree}
 use Rattle.tk_plan_laws.proofs.SameReports.{report_law}
 use Rattle.tk_plan_laws.proofs.Samples.{demo, demo_table, demo_counts, demo_lines, demo_report, line, pair}
 
@@ -183,4 +183,4 @@ demo_run = record {
 
 -- so its report is the demo plan's
 pub demo_run_report : report_of_record demo_record ≡ flat_map line (demo_counts ++ demo_lines)
-demo_run_report = report_law demo demo_table (trees_of demo) (models demo demo_table demo_planned demo_numbered) 2 demo_record demo_run ∙ demo_report
+demo_run_report = report_law demo demo_table (plan_tree demo demo_table demo_planned demo_numbered) 2 demo_record demo_run ∙ demo_report

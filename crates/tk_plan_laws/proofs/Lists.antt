@@ -1,8 +1,11 @@
--- Lists of lists of which all but one are empty.
-use Rattle.std.proofs.Common.{◌≡◌, ◌≢◌, ◌≤◌, ◌<◌, ℕ, zero, suc, ◌+◌, ◌⊎◌, List, [], ◌∷◌, ◌++◌, flat_map, Option, Some, None, slice_get, refl, sym, ap, ap₂, ◌∙◌, arith, append-nil, inl, inr, ⊎_elim, ◌==◌, tests, subst}
+-- What holds of each element of a list, how many pass a test, and lists of lists of which all but one are empty.
+use Rattle.std.proofs.Common.{◌≡◌, ◌≢◌, ◌≤◌, ◌<◌, ℕ, zero, suc, ◌+◌, ◌⊎◌, List, [], ◌∷◌, ◌++◌, flat_map, Option, Some, None, slice_get, refl, sym, ap, ap₂, ◌∙◌, arith, append_assoc, append-nil, inl, inr, ⊎_elim, ◌==◌, tests, subst, Bool, true, false, if◌then◌else◌}
 use Rattle.std.proofs.lemmas.Bool.{cases_Bool}
 use Rattle.tk_base.proofs.Lists.{nil_left, nil_right}
-use Rattle.tk_plan_laws.proofs.Model.{AllNil, AtMostOne, Each, times, times_in}
+
+abbrev pub Each : {A : Type 0} → (A → Type 0) → List A → Type 0
+Each P [] = Unit {0}
+Each P (x ∷ xs) = P x × Each P xs
 
 pub each_at : {A : Type 0} (P : A → Type 0) (xs : List A) (i : ℕ) (x : A) → Each P xs → slice_get xs i ≡ Some x → P x
 each_at P [] i x h e = cc
@@ -25,7 +28,43 @@ pub each_split : {A : Type 0} (P : A → Type 0) (xs ys : List A) → Each P (xs
 each_split P [] ys h = (tt, h)
 each_split P (x ∷ xs) ys h = let e = each_split P xs ys h.1 in ((h.0, e.0), e.1)
 
+-- ---- how many pass the test
+
+abbrev pub count : {A : Type 0} → (A → Bool) → List A → ℕ
+count p [] = 0
+count p (x ∷ xs) = if p x then 1 + count p xs else count p xs
+
+pub count-append : {A : Type 0} (p : A → Bool) (xs ys : List A) → count p (xs ++ ys) ≡ count p xs + count p ys
+count-append p [] ys = omega arith
+count-append p (x ∷ xs) ys = let h = count-append p xs ys in
+    elim (p x) as (λ b. (if b then 1 + count p (xs ++ ys) else count p (xs ++ ys)) ≡ (if b then 1 + count p xs else count p xs) + count p ys)
+    [ true ↦ omega (arith, h) | false ↦ h ]
+
+pub not_none : (b : Bool) (n : ℕ) → b ≡ true → (if b then 1 + n else n) ≡ 0 → ⊥
+not_none true n e h = omega (arith, h)
+not_none false n e h = cc
+
+pub none_tail : (b : Bool) (n : ℕ) → (if b then 1 + n else n) ≡ 0 → n ≡ 0
+none_tail true n h = let no : ⊥ = omega (arith, h) in absurd no
+none_tail false n h = h
+
+pub none_left : (b : Bool) (n : ℕ) → b ≡ true → (if b then 1 + n else n) ≤ 1 → n ≡ 0
+none_left true n e h = omega (arith, h)
+none_left false n e h = cc
+
+pub at_most_tail : (b : Bool) (n : ℕ) → (if b then 1 + n else n) ≤ 1 → n ≤ 1
+at_most_tail true n h = omega (arith, h)
+at_most_tail false n h = h
+
 -- ---- at most one
+
+-- each list that g gives is empty; all but one at most are
+abbrev pub AllNil : {A B : Type 0} → (A → List B) → List A → Type 0
+AllNil g xs = Each (λ x. g x ≡ []) xs
+
+abbrev pub AtMostOne : {A B : Type 0} → (A → List B) → List A → Type 0
+AtMostOne g [] = Unit {0}
+AtMostOne g (x ∷ xs) = ((g x ≡ []) × AtMostOne g xs) ⊎ AllNil g xs
 
 pub all_nil : {A B : Type 0} (g : A → List B) (xs : List A) → flat_map g xs ≡ [] → AllNil g xs
 all_nil g [] e = tt
@@ -84,6 +123,15 @@ lone_is g (x ∷ xs) (suc k) h =
 
 -- ---- lists by numbers that were drawn
 
+-- how often u stands in the list, and in the lists together
+abbrev pub times : ℕ → List ℕ → ℕ
+times u [] = 0
+times u (x ∷ xs) = if x == u then 1 + times u xs else times u xs
+
+abbrev pub times_in : ℕ → List (List ℕ) → ℕ
+times_in u [] = 0
+times_in u (l ∷ ls) = times u l + times_in u ls
+
 abbrev pub copies : {B : Type 0} → ℕ → List B → List B
 copies zero l = []
 copies (suc n) l = l ++ copies n l
@@ -102,49 +150,32 @@ drawn_is g u (v ∷ us) h =
     (λ e. let differ : v ≢ u = grind (arith, tests, e) in rw e (ap (λ a. a ++ flat_map g us) (h v differ) ∙ more))
     (cases_Bool (v == u))
 
--- where u stands at most once in the lists together, one list at most has it, as often as all have it
-pub record IsSeat (u : ℕ) (lists : List (List ℕ)) : Type 0 where
-  pub seat : ℕ
-  pub others : (i : ℕ) (us : List ℕ) → slice_get lists i ≡ Some us → i ≢ seat → times u us ≡ 0
-  pub here : (us : List ℕ) → slice_get lists seat ≡ Some us → times u us ≡ times_in u lists
-  pub none : slice_get lists seat ≡ None → times_in u lists ≡ 0
-
-none_in : (u : ℕ) (lists : List (List ℕ)) → times_in u lists ≡ 0 → (i : ℕ) (us : List ℕ) → slice_get lists i ≡ Some us → times u us ≡ 0
-none_in u [] h i us e = cc
-none_in u (l ∷ ls) h zero us e = let same : l ≡ us = cc in subst (λ x. times u x ≡ 0) same (omega (arith, h))
-none_in u (l ∷ ls) h (suc i) us e = none_in u ls (omega (arith, h)) i us e
-
-first_others : (u : ℕ) (l : List ℕ) (ls : List (List ℕ)) → times_in u ls ≡ 0 → (i : ℕ) (us : List ℕ) → slice_get (l ∷ ls) i ≡ Some us → i ≢ 0 → times u us ≡ 0
-first_others u l ls h zero us e n = absurd (n refl)
-first_others u l ls h (suc i) us e n = none_in u ls h i us e
-
-first_seat : (u : ℕ) (l : List ℕ) (ls : List (List ℕ)) → times_in u ls ≡ 0 → IsSeat u (l ∷ ls)
-first_seat u l ls h = record {
-  seat = 0;
-  others = first_others u l ls h;
-  here = λ us e. let same : l ≡ us = cc in subst (λ x. times u x ≡ times u l + times_in u ls) same (omega (arith, h));
-  none = λ e. cc;
-}
-
-next_others : (u : ℕ) (l : List ℕ) (ls : List (List ℕ)) (s : IsSeat u ls) → times u l ≡ 0 → (i : ℕ) (us : List ℕ) → slice_get (l ∷ ls) i ≡ Some us → i ≢ suc s.seat → times u us ≡ 0
-next_others u l ls s h zero us e n = let same : l ≡ us = cc in subst (λ x. times u x ≡ 0) same h
-next_others u l ls s h (suc i) us e n = s.others i us e (λ same. n (ap suc same))
-
-next_seat : (u : ℕ) (l : List ℕ) (ls : List (List ℕ)) → times u l ≡ 0 → IsSeat u ls → IsSeat u (l ∷ ls)
-next_seat u l ls h s = record {
-  seat = suc s.seat;
-  others = next_others u l ls s h;
-  here = λ us e. let x = s.here us e in omega (arith, h, x);
-  none = λ e. let x = s.none e in omega (arith, h, x);
-}
+copies-append : {B : Type 0} (m n : ℕ) (l : List B) → copies (m + n) l ≡ copies m l ++ copies n l
+copies-append zero n l = copies_by (0 + n) n l (omega arith)
+copies-append (suc m) n l =
+    copies_by (suc m + n) (suc (m + n)) l (omega arith) ∙ (ap (λ k. l ++ k) (copies-append m n l) ∙ sym (append_assoc l (copies m l) (copies n l)))
 
 pub zero_or : (n : ℕ) → (n ≡ 0) ⊎ (0 < n)
 zero_or zero = inl refl
 zero_or (suc n) = inr (omega arith)
 
-pub seat : (u : ℕ) (lists : List (List ℕ)) → times_in u lists ≤ 1 → IsSeat u lists
-seat u [] h = record { seat = 0; others = λ i us e n. cc; here = λ us e. cc; none = λ e. refl }
-seat u (l ∷ ls) h = ⊎_elim
-    (λ e. next_seat u l ls e (seat u ls (omega (arith, h))))
-    (λ e. first_seat u l ls (omega (arith, h, e)))
-    (zero_or (times u l))
+module _ {B : Type 0} (g : ℕ → List B) (u : ℕ) (nothing : (v : ℕ) → v ≢ u → g v ≡ []) where
+  abbrev pub list_gives : List ℕ → List B
+  list_gives us = flat_map g us
+
+  -- lists of numbers give together what one of them gives, as often as it stands in them
+  pub all_drawn : (lists : List (List ℕ)) → flat_map list_gives lists ≡ copies (times_in u lists) (g u)
+  all_drawn [] = refl
+  all_drawn (l ∷ ls) = ap₂ (λ a b. a ++ b) (drawn_is g u l nothing) (all_drawn ls) ∙ sym (copies-append (times u l) (times_in u ls) (g u))
+
+  none_drawn : (lists : List (List ℕ)) → times_in u lists ≡ 0 → AllNil list_gives lists
+  none_drawn [] e = tt
+  none_drawn (l ∷ ls) e = (drawn_is g u l nothing ∙ copies_by (times u l) 0 (g u) (omega (arith, e)), none_drawn ls (omega (arith, e)))
+
+  -- where it stands at most once in them, one of them at most gives something
+  pub one_drawn : (lists : List (List ℕ)) → times_in u lists ≤ 1 → AtMostOne list_gives lists
+  one_drawn [] h = tt
+  one_drawn (l ∷ ls) h = ⊎_elim
+      (λ e. inl (drawn_is g u l nothing ∙ copies_by (times u l) 0 (g u) e, one_drawn ls (omega (arith, h))))
+      (λ e. inr (none_drawn ls (omega (arith, h, e))))
+      (zero_or (times u l))

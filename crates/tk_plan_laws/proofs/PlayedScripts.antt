@@ -1,170 +1,151 @@
--- In a unit's script each step has what it needs to be played.
-use Rattle.std.proofs.Common.{◌≡◌, ℕ, zero, suc, ◌+◌, Bool, true, false, List, [], ◌∷◌, ◌++◌, map, length, Option, Some, None, slice_get, refl, sym, ap, ◌∙◌, subst, arith, tests, append_assoc, append-nil, if◌then◌else◌, inl, inr, not, ◌&&◌, is_some}
-use Rattle.std.proofs.lemmas.Bool.{and_parts}
-use Rattle.tk_plan.specs.Trees as plan
+-- In a plan's scripts each step has what it needs to be played.
+use Rattle.std.proofs.Common.{◌≡◌, ℕ, zero, suc, ◌+◌, ◌==◌, Bool, true, false, List, [], ◌∷◌, ◌++◌, length, Some, slice_get, refl, sym, ap, subst, arith, tests, append_assoc, append-nil, if◌then◌else◌, is_some, inl, inr, ⊎_elim}
+use Rattle.std.proofs.lemmas.Bool.{and_parts, cases_Bool}
+use Rattle.tk_plan.specs.Cutting.{Part, all_static, from_each, moves_of, on_spine, parts, parts_below, piece, root_script, script_of, spine_begins, spine_ends, whole_unit}
 use Rattle.tk_plan.specs.Cutting as cut
-use Rattle.tk_plan.proofs.Cuts.{spine_facts}
-use Rattle.tk_plan.proofs.NumberedPlans.{rooted_static}
-use Rattle.tk_plan.specs.Cutting.{script_of}
-use Rattle.tk_plan.specs.Numbers.{IsNumbered}
-use Rattle.tk_plan.specs.Planned.{IsPlanned}
-use Rattle.tk_plan.specs.Trees.{forest}
+use Rattle.tk_plan.specs.Script.{move, moves, moves_below, opening, stamped}
+use Rattle.tk_plan.specs.Trees.{Forest, Tree, flat, flats, forest, more, no_trees, number_of, tree}
+use Rattle.tk_plan.specs.declared.trees.nodes.Node.{Node}
 use Rattle.tk_plan.specs.declared.trees.nodes.NumberedNode.{NumberedNode}
-use Rattle.tk_plan.specs.declared.scripts.steps.Act.TheVariants.{Register}
+use Rattle.tk_plan.specs.declared.scripts.steps.Act.TheVariants.{Finish, Register, Skip}
+use Rattle.tk_plan.proofs.Cuts.{spine_facts}
 use Rattle.tk_ids.specs.IdText.{SegmentView}
+use Rattle.tk_ids.specs.Table.{ids_of}
 use Rattle.tk_ids.specs.declared.descriptors.Descriptor.{Descriptor}
-use Rattle.tk_plan_laws.proofs.Bridge.{modelled, modelled_below}
-use Rattle.tk_plan_laws.proofs.PlanTrees.{models, trees_of}
-use Rattle.tk_plan_laws.proofs.Keyed.{knows_more, position_last}
-use Rattle.tk_plan_laws.proofs.Lists.{each-append, each_split}
-use Rattle.tk_plan_laws.proofs.Model.{Each, Forest, IsKeyed, Item, Knows, Part, Publication, Step, Tree, a_file, an_entry, ids_emitted, is_open, more, no_trees, nodes, nodes_below, opening, part_steps, parts, parts_below, performed, plain, publications, published, script, step, steps, steps_below, steps_of, tree, units}
-use Rattle.tk_plan_laws.specs.Scripts.{ArePlayable, HasKey, IsChildAt, id_at, is_registration}
+use Rattle.tk_plan_laws.proofs.Lists.{Each, each-append, each_split}
+use Rattle.tk_plan_laws.proofs.MoveLabels.{AreBuilt, IsBuilt, Move, of_publications}
+use Rattle.tk_plan_laws.proofs.PlanTrees.{AreKeyed, IsKeyed, IsPlanTree}
+use Rattle.tk_plan_laws.specs.Scripts.{ArePlayable, HasKey, IsPlayable, id_at, is_registration, position}
 
--- each node stands below that one, and its children below it
-abbrev mutual
-  pub IsUnder : Item → Tree → Type 0
-  IsUnder m (tree n f) = ((n.parent ≡ m.number) × (n.id ≡ m.id ++ n.node.segment ∷ [])) × AreUnder n f
+-- ---- positions
 
-  pub AreUnder : Item → Forest → Type 0
-  AreUnder m no_trees = Unit {0}
-  AreUnder m (more t f) = IsUnder m t × AreUnder m f
+position_more : (x : ℕ) (ids rest : List ℕ) → slice_get ids (position x ids) ≡ Some x → slice_get (ids ++ rest) (position x (ids ++ rest)) ≡ Some x
+position_more x [] rest h = cc
+position_more x (y ∷ ys) rest h =
+    let more = position_more x ys rest in
+    elim (y == x) as (λ b. slice_get (y ∷ ys) (if b then 0 else suc (position x ys)) ≡ Some x → slice_get (y ∷ (ys ++ rest)) (if b then 0 else suc (position x (ys ++ rest))) ≡ Some x)
+    [ true ↦ (λ e. e) | false ↦ (λ e. more e) ] h
 
--- Trees whose tops are static; so are those below a node that is cut open.
-abbrev mutual
-  pub IsTop : Tree → Type 0
-  IsTop (tree n f) = (n.is_static ≡ true) × (AreUnder n f × (is_open n ≡ true → AreTop f))
+position_last : (x : ℕ) (ids : List ℕ) → slice_get (ids ++ x ∷ []) (position x (ids ++ x ∷ [])) ≡ Some x
+position_last x [] = let same : (x == x) ≡ true = grind (arith, tests) in rw same refl
+position_last x (y ∷ ys) = ⊎_elim
+    (λ e. let same : y ≡ x = grind (arith, tests, e) in rw e (ap Some same))
+    (λ e. rw e (position_last x ys))
+    (cases_Bool (y == x))
 
-  pub AreTop : Forest → Type 0
-  AreTop no_trees = Unit {0}
-  AreTop (more t f) = IsTop t × AreTop f
+-- ---- moves
+
+-- each move can be played after those before it
+abbrev Plays : List NumberedNode → List Descriptor → List ℕ → List Move → Type 0
+Plays all table ids [] = Unit {0}
+Plays all table ids (m ∷ ms) = IsPlayable all table ids m.node m.act × Plays all table (if is_registration m.act then ids ++ m.node ∷ [] else ids) ms
 
 module _ (all : List NumberedNode) (table : List Descriptor) where
-  abbrev Plays : List ℕ → List Step → Type 0
-  Plays ids ss = ArePlayable all table ids (map plain ss)
+  plays_stamped : (ids : List ℕ) (p : ℕ) (ms : List Move) → Plays all table ids ms → ArePlayable all table ids (stamped p ms)
+  plays_stamped ids p [] h = tt
+  plays_stamped ids p (m ∷ ms) h = (h.0, plays_stamped (if is_registration m.act then ids ++ m.node ∷ [] else ids) (p + 1) ms h.1)
 
-  plays-append : (ids : List ℕ) (xs ys : List Step) → Plays ids xs → Plays (ids ++ ids_emitted xs) ys → Plays ids (xs ++ ys)
-  plays-append ids [] ys h g = subst (λ i. ArePlayable all table i (map plain ys)) (append-nil ids) g
-  plays-append ids (s ∷ ss) ys h g = (
+  plays-append : (ids : List ℕ) (xs ys : List Move) → Plays all table ids xs → ((rest : List ℕ) → Plays all table (ids ++ rest) ys) → Plays all table ids (xs ++ ys)
+  plays-append ids [] ys h g = subst (λ i. Plays all table i ys) (append-nil ids) (g [])
+  plays-append ids (m ∷ ms) ys h g = (
     h.0,
-    elim (is_registration s.act) as (λ d.
-        ArePlayable all table (if d then ids ++ s.node.number ∷ [] else ids) (map plain ss)
-        → ArePlayable all table (ids ++ ((if d then s.node.number ∷ [] else []) ++ ids_emitted ss)) (map plain ys)
-        → ArePlayable all table (if d then ids ++ s.node.number ∷ [] else ids) (map plain (ss ++ ys))) [
-          | true ↦ (λ a b. plays-append (ids ++ s.node.number ∷ []) ss ys a (subst (λ i. ArePlayable all table i (map plain ys)) (sym (append_assoc ids (s.node.number ∷ []) (ids_emitted ss))) b))
-          | false ↦ (λ a b. plays-append ids ss ys a b)
-        ] h.1 g,
+    elim (is_registration m.act) as (λ d. Plays all table (if d then ids ++ m.node ∷ [] else ids) ms → Plays all table (if d then ids ++ m.node ∷ [] else ids) (ms ++ ys)) [
+      | true ↦ (λ a. plays-append (ids ++ m.node ∷ []) ms ys a (λ rest. subst (λ i. Plays all table i ys) (sym (append_assoc ids (m.node ∷ []) rest)) (g (m.node ∷ rest))))
+      | false ↦ (λ a. plays-append ids ms ys a g)
+    ] h.1,
   )
 
-  key_there : (ids : List ℕ) (n : Item) → IsKeyed all table n → Knows ids n → HasKey all table ids n.number
-  key_there ids n k (inl s) = let l = k.within ∙ s in inl (grind (arith, tests, l), k.static s ∙ ap Some (sym k.id))
-  key_there ids n k (inr s) = let l = k.within ∙ s.0 in inr (grind (arith, tests, l), s.1)
+  has_more : (ids rest : List ℕ) (k : ℕ) → HasKey all table ids k → HasKey all table (ids ++ rest) k
+  has_more ids rest k (inl h) = inl h
+  has_more ids rest k (inr h) = inr (h.0, position_more k ids rest h.1)
 
-  plays_published : (ids : List ℕ) (p : ℕ) (n : Item) (xs : List Publication) → HasKey all table ids n.number → Plays ids (published p n xs)
-  plays_published ids p n [] h = tt
-  plays_published ids p n (an_entry i ∷ xs) h = (h, plays_published ids (p + 1) n xs h)
-  plays_published ids p n (a_file i ∷ xs) h = (h, plays_published ids (p + 1) n xs h)
-
-  plays_performed : (ids : List ℕ) (p : ℕ) (n : Item) (o : Option (List ℕ)) (below : ℕ → List Step) → IsKeyed all table n → Knows ids n
-      → ((i : List ℕ) (k : ℕ) → Knows i n → Plays i (below k)) → Plays ids (performed p n o below)
-  plays_performed ids p n (Some r) below own h g = (key_there ids n own h, tt)
-  plays_performed ids p n None below own h g =
-      let i = ids ++ ids_emitted (opening p n) in
-      let k = p + length (opening p n) in
-      let there = knows_more ids (ids_emitted (opening p n)) n h in
-      plays-append ids (opening p n) _ (key_there ids n own h, plays_published ids (p + 1) n (publications n) (key_there ids n own h))
-      (plays-append i (below k) _ (g i k there) (key_there (i ++ ids_emitted (below k)) n own (knows_more i (ids_emitted (below k)) n there), tt))
-
-  child_at : (m n : Item) → IsKeyed all table m → IsKeyed all table n → n.parent ≡ m.number → n.id ≡ m.id ++ n.node.segment ∷ [] → IsChildAt all n.parent n.number
-  child_at m n km kn p i = (n.node, kn.node, kn.id ∙ (i ∙ ap (λ x. x ++ n.node.segment ∷ []) (sym km.id ∙ ap (id_at all) (sym p))))
+  plays_opening : (ids : List ℕ) (n : Node) (k : ℕ) → HasKey all table ids k → Plays all table ids (opening n k)
+  plays_opening ids n k h = (h, of_publications (Plays all table ids) n k (λ i ms g. (h, g)) (λ i ms g. (h, g)) tt)
 
   mutual
-    plays : (ids : List ℕ) (p : ℕ) (m : Item) (t : Tree) → IsKeyed all table m → Knows ids m → IsUnder m t → Each (IsKeyed all table) (nodes t) → Plays ids (steps p t)
-    plays ids p m (tree n f) km there u h =
-        let own = plays_performed ids p n n.skip (λ k. steps_below k f) h.0 in
-        let next = plays_performed (ids ++ n.number ∷ []) (p + 1) n n.skip (λ k. steps_below k f) h.0 in
-        let below : (i : List ℕ) (k : ℕ) → Knows i n → Plays i (steps_below k f) = λ i k at. plays_below i k n f h.0 at u.1 h.1 in
-        let last = position_last n.number ids in
-        let parent = subst (HasKey all table ids) (sym u.0.0) (key_there ids m km there) in
-        let child = child_at m n km h.0 u.0.0 u.0.1 in
-        elim n.is_static as (λ b.
-        ((b ≡ true) → Knows ids n) → ((b ≡ false) → Knows (ids ++ n.number ∷ []) n)
-        → ArePlayable all table ids (map plain (if b then performed p n n.skip (λ k. steps_below k f) else step p n (Register n.parent) ∷ performed (p + 1) n n.skip (λ k. steps_below k f))))
-        [ true ↦ (λ x y. own (x refl) below) | false ↦ (λ x y. ((parent, child), next (y refl) below)) ]
-        (λ e. inl e) (λ e. inr (e, last))
+    plays : (ids : List ℕ) (t : Tree) → AreKeyed all table (flat t) → (above : List SegmentView) → IsBuilt all above t → HasKey all table ids (number_of t) → Plays all table ids (moves t)
+    plays ids (tree n k f) each above b h =
+        let whole = plays-append ids (opening n k) (moves_below k f ++ move k Finish ∷ []) (plays_opening ids n k h) (λ rest.
+        let here = has_more ids rest k h in
+        plays-append (ids ++ rest) (moves_below k f) (move k Finish ∷ []) (plays_below (ids ++ rest) k f each.1 b.1 here) (λ more. (has_more (ids ++ rest) more k here, tt))) in
+        elim (is_some n.skip) as (λ s. Plays all table ids (if s then move k Skip ∷ [] else opening n k ++ (moves_below k f ++ move k Finish ∷ []))) [ true ↦ (h, tt) | false ↦ whole ]
 
-    plays_below : (ids : List ℕ) (p : ℕ) (m : Item) (f : Forest) → IsKeyed all table m → Knows ids m → AreUnder m f → Each (IsKeyed all table) (nodes_below f) → Plays ids (steps_below p f)
-    plays_below ids p m no_trees km there u h = tt
-    plays_below ids p m (more t f) km there u h =
-        let e = each_split (IsKeyed all table) (nodes t) (nodes_below f) h in
-        plays-append ids (steps p t) _ (plays ids p m t km there u.0 e.0)
-        (plays_below (ids ++ ids_emitted (steps p t)) (p + length (steps p t)) m f km (knows_more ids (ids_emitted (steps p t)) m there) u.1 e.1)
+    plays_below : (ids : List ℕ) (parent : ℕ) (f : Forest) → AreKeyed all table (flats f) → AreBuilt all (id_at all parent) f → HasKey all table ids parent → Plays all table ids (moves_below parent f)
+    plays_below ids parent no_trees each b h = tt
+    plays_below ids parent (more (tree n k g) f) each b h =
+        let t = tree n k g in
+        let both = each_split (λ (p : NumberedNode). IsKeyed all table p.node p.number) (flat t) (flats f) each in
+        let own : IsKeyed all table n k = both.0.0 in
+        let rest : (i : List ℕ) → HasKey all table i parent → HasKey all table i k → Plays all table i (moves t ++ moves_below parent f)
+        = λ i above own. plays-append i (moves t) (moves_below parent f) (plays i (tree n k g) both.0 (id_at all parent) b.0 own) (λ more. plays_below (i ++ more) parent f both.1 b.1 (has_more i more parent above)) in
+        elim n.is_static as (λ s. ((s ≡ true) → HasKey all table ids k) → ((s ≡ false) → HasKey all table (ids ++ k ∷ []) k)
+        → Plays all table ids ((if s then [] else move k (Register parent) ∷ []) ++ (moves t ++ moves_below parent f))) [
+          | true ↦ (λ x y. rest ids h (x refl))
+          | false ↦ (λ x y. ((h, (n, own.node, b.0.0)), rest (ids ++ k ∷ []) (has_more ids (k ∷ []) parent h) (y refl)))
+        ] (λ e. inl (own.static e)) (λ e. inr (own.dynamic e, position_last k ids))
 
-  plays_top : (p : ℕ) (t : Tree) → IsTop t → Each (IsKeyed all table) (nodes t) → Plays [] (steps p t)
-  plays_top p (tree n f) u h =
-      let own = plays_performed [] p n n.skip (λ k. steps_below k f) h.0 (inl u.0) (λ i k at. plays_below i k n f h.0 at u.1.0 h.1) in
-      subst (λ b. ArePlayable all table [] (map plain (if b then performed p n n.skip (λ k. steps_below k f) else step p n (Register n.parent) ∷ performed (p + 1) n n.skip (λ k. steps_below k f)))) (sym u.0) own
+  -- ---- trees whose tops are static
 
-  abbrev PlaysPart : Part → Type 0
-  PlaysPart x = Plays [] (script x)
+  abbrev is_static : Tree → Bool
+  is_static (tree n k f) = n.is_static
+
+  plays_top : (ids : List ℕ) (above : List SegmentView) (t : Tree) → is_static t ≡ true → AreKeyed all table (flat t) → IsBuilt all above t → Plays all table ids (moves t)
+  plays_top ids above (tree n k f) s each b = plays ids (tree n k f) each above b (inl (each.0.static s))
+
+  plays_statics : (ids : List ℕ) (above : List SegmentView) (parent : ℕ) (f : Forest) → all_static f ≡ true → AreKeyed all table (flats f) → AreBuilt all above f → Plays all table ids (moves_below parent f)
+  plays_statics ids above parent no_trees s each b = tt
+  plays_statics ids above parent (more (tree n k g) f) s each b =
+      let t = tree n k g in
+      let statics = and_parts n.is_static (all_static f) s in
+      let both = each_split (λ (p : NumberedNode). IsKeyed all table p.node p.number) (flat t) (flats f) each in
+      subst (λ x. Plays all table ids ((if x then [] else move k (Register parent) ∷ []) ++ (moves t ++ moves_below parent f))) (sym statics.0)
+      (plays-append ids (moves t) (moves_below parent f) (plays_top ids above t statics.0 both.0 b.0) (λ more. plays_statics (ids ++ more) above parent f statics.1 both.1 b.1))
+
+  -- a node on the spine is found by its number, and the table has its id there
+  abbrev pub IsOfSpine : Node → ℕ → Type 0
+  IsOfSpine n k = IsKeyed all table n k × (slice_get (ids_of table) k ≡ Some (id_at all k))
+
+  -- a part of the spine is of a node in the table, and a unit can be played
+  abbrev pub IsKnownPart : Part → Type 0
+  IsKnownPart (spine_begins n k) = IsOfSpine n k
+  IsKnownPart (whole_unit t) = Plays all table [] (moves t)
+  IsKnownPart (spine_ends n k) = IsOfSpine n k
 
   mutual
-    plays_parts : (p : ℕ) (t : Tree) → IsTop t → Each (IsKeyed all table) (nodes t) → Each PlaysPart (parts p t)
-    plays_parts p (tree n f) u h =
-        let inner = λ (e : is_open n ≡ true). plays_parts_below (p + length (opening p n)) f (u.1.1 e) h.1 in
-        let whole = plays_top p (tree n f) u h in
-        elim (is_open n) as (λ b. (b ≡ true → Each PlaysPart (parts_below (p + length (opening p n)) f))
-        → Each PlaysPart (if b then parts_below (p + length (opening p n)) f else record { first = p; whole = tree n f } ∷ []))
-        [ true ↦ (λ g. g refl) | false ↦ (λ g. (whole, tt)) ] inner
+    known_parts : (b : Bool) (above : List SegmentView) (t : Tree) → is_static t ≡ true → AreKeyed all table (flat t) → IsBuilt all above t → Each IsKnownPart (parts b t)
+    known_parts b above (tree n k f) s each built =
+        let own : IsOfSpine n k = (each.0, (each.0.static s).1) in
+        ⊎_elim
+        (λ (y : on_spine b n f ≡ true).
+        subst (λ x. Each IsKnownPart (if x then spine_begins n k ∷ (parts_below false f ++ spine_ends n k ∷ []) else whole_unit (tree n k f) ∷ [])) (sym y)
+        (own, each-append IsKnownPart (parts_below false f) (spine_ends n k ∷ []) (known_below false (id_at all k) f (spine_facts b n f y).1 each.1 built.1) (own, tt)))
+        (λ (y : on_spine b n f ≡ false).
+        subst (λ x. Each IsKnownPart (if x then spine_begins n k ∷ (parts_below false f ++ spine_ends n k ∷ []) else whole_unit (tree n k f) ∷ [])) (sym y)
+        (plays_top [] above (tree n k f) s each built, tt))
+        (cases_Bool (on_spine b n f))
 
-    plays_parts_below : (p : ℕ) (f : Forest) → AreTop f → Each (IsKeyed all table) (nodes_below f) → Each PlaysPart (parts_below p f)
-    plays_parts_below p no_trees u h = tt
-    plays_parts_below p (more t f) u h =
-        let e = each_split (IsKeyed all table) (nodes t) (nodes_below f) h in
-        each-append PlaysPart (parts p t) _ (plays_parts p t u.0 e.0) (plays_parts_below (p + length (steps p t)) f u.1 e.1)
+    known_below : (b : Bool) (above : List SegmentView) (f : Forest) → all_static f ≡ true → AreKeyed all table (flats f) → AreBuilt all above f → Each IsKnownPart (parts_below b f)
+    known_below b above no_trees s each built = tt
+    known_below b above (more (tree n k g) f) s each built =
+        let statics = and_parts n.is_static (all_static f) s in
+        let both = each_split (λ (p : NumberedNode). IsKeyed all table p.node p.number) (flat (tree n k g)) (flats f) each in
+        each-append IsKnownPart (parts b (tree n k g)) (parts_below b f) (known_parts b above (tree n k g) statics.0 both.0 built.0) (known_below b above f statics.1 both.1 built.1)
 
-  plays_at : (xs : List Part) (u : ℕ) → Each PlaysPart xs → Plays [] (steps_of (slice_get xs u))
-  plays_at [] u h = tt
-  plays_at (x ∷ xs) zero h = h.0
-  plays_at (x ∷ xs) (suc u) h = plays_at xs u h.1
+  plays_at : (i : ℕ) (ps : List Part) → Each IsKnownPart ps → (u : ℕ) → ArePlayable all table [] (cut.steps_of (slice_get (from_each piece i ps) u))
+  plays_at i [] h u = tt
+  plays_at i (spine_begins n k ∷ ps) h u = plays_at (i + length (moves_of (spine_begins n k))) ps h.1 u
+  plays_at i (whole_unit t ∷ ps) h zero = plays_stamped [] i (moves t) h.0
+  plays_at i (whole_unit t ∷ ps) h (suc u) = plays_at (i + length (moves t)) ps h.1 u
+  plays_at i (spine_ends n k ∷ ps) h u = plays_at (i + length (moves_of (spine_ends n k))) ps h.1 u
 
-  pub plays_unit : (f : Forest) → AreTop f → Each (IsKeyed all table) (nodes_below f) → (u : ℕ) → ArePlayable all table [] (map plain (part_steps f u))
-  plays_unit f t h u = plays_at (units f) u (plays_parts_below 0 f t h)
+  -- ---- the scripts of a plan
 
--- ---- the trees of a plan
+  module _ (plan : IsPlanTree all table) where
+    pub parts_known : Each IsKnownPart (parts_below true (forest all))
+    parts_known = known_below true [] (forest all) plan.statics plan.keyed plan.built
 
-mutual
-  under : (b : Bool) (m : Item) (t : plan.Tree) → IsUnder m (modelled b m.number m.id t)
-  under b m (plan.tree n k f) = ((refl, refl), under_below false (record { number = k; parent = m.number; id = m.id ++ n.segment ∷ []; is_static = n.is_static; may_open = cut.on_spine b n f; skip = n.skip; node = n }) f)
+    pub unit_plays : (u : ℕ) → ArePlayable all table [] (script_of (forest all) u)
+    unit_plays = plays_at 0 (parts_below true (forest all)) parts_known
 
-  under_below : (b : Bool) (m : Item) (f : plan.Forest) → AreUnder m (modelled_below b m.number m.id f)
-  under_below b m plan.no_trees = tt
-  under_below b m (plan.more t f) = (under b m t, under_below b m f)
-
-abbrev is_static : plan.Tree → Bool
-is_static (plan.tree n k f) = n.is_static
-
-mutual
-  top : (b : Bool) (parent : ℕ) (above : List SegmentView) (t : plan.Tree) → is_static t ≡ true → IsTop (modelled b parent above t)
-  top b parent above (plan.tree n k f) e =
-      let item : Item = record { number = k; parent = parent; id = above ++ n.segment ∷ []; is_static = n.is_static; may_open = cut.on_spine b n f; skip = n.skip; node = n } in (
-        e,
-        (
-          under_below false item f,
-          λ y. top_below false k (above ++ n.segment ∷ []) f
-              (spine_facts b n f
-              (and_parts (not (is_some n.skip)) (cut.on_spine b n f)
-              (and_parts n.is_static (not (is_some n.skip) && cut.on_spine b n f) y).1).1).1,
-        ),
-      )
-
-  pub top_below : (b : Bool) (parent : ℕ) (above : List SegmentView) (f : plan.Forest) → cut.all_static f ≡ true → AreTop (modelled_below b parent above f)
-  top_below b parent above plan.no_trees e = tt
-  top_below b parent above (plan.more (plan.tree n k g) f) e =
-      let both = and_parts n.is_static (cut.all_static f) e in
-      (top b parent above (plan.tree n k g) both.0, top_below b parent above f both.1)
-
-pub playable : (all : List NumberedNode) (table : List Descriptor) (u : ℕ) → IsPlanned all table → IsNumbered all → ArePlayable all table [] (script_of (forest all) u)
-playable all table u p numbers =
-    let m = models all table p numbers in
-    subst (ArePlayable all table []) (sym (m.scripts u))
-    (plays_unit all table (trees_of all) (top_below true 0 [] (forest all) (rooted_static (forest all) p.root)) m.keyed u)
+    pub root_plays : ArePlayable all table [] (root_script (forest all))
+    root_plays = plays_stamped [] 0 (moves_below 0 (forest all)) (plays_statics [] [] 0 (forest all) plan.statics plan.keyed plan.built)

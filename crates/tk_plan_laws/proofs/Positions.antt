@@ -2,8 +2,8 @@
 use Rattle.std.proofs.Common.{◌≡◌, ◌<◌, ◌≤◌, ℕ, zero, suc, ◌+◌, Bool, true, false, not, ◌||◌, List, [], ◌∷◌, map, take, Some, option_map, slice_get, refl, sym, ap, ◌∙◌, arith, if◌then◌else◌, ⊎_elim}
 use Rattle.std.specs.List.{list_any}
 use Rattle.std.proofs.lemmas.Bool.{true≢false, and_from, and_parts, cases_Bool, or_cases, or_left, or_right}
-use Rattle.std.proofs.lemmas.Option.{same_Some, none-some}
-use Rattle.tk_plan_laws.proofs.Model.{count}
+use Rattle.std.proofs.lemmas.Option.{same_Some, none-some, slice_get-map}
+use Rattle.tk_plan_laws.proofs.Lists.{count}
 use Rattle.tk_plan_laws.specs.Listening.{is_followed, precedes}
 
 -- an element that passes the test
@@ -146,9 +146,7 @@ taken_at (suc n) (y ∷ ys) zero x lt at = at
 taken_at (suc n) (y ∷ ys) (suc i) x lt at = taken_at n ys i x (omega (arith, lt)) at
 
 pub map_get : {A B : Type 0} (g : A → B) (xs : List A) (i : ℕ) (x : A) → slice_get xs i ≡ Some x → slice_get (map g xs) i ≡ Some (g x)
-map_get g [] i x e = cc
-map_get g (y ∷ ys) zero x e = ap (option_map g) e
-map_get g (y ∷ ys) (suc i) x e = map_get g ys i x e
+map_get g xs i x e = slice_get-map g xs i ∙ ap (option_map g) e
 
 pub of_map : {A B : Type 0} (g : A → B) (xs : List A) (i : ℕ) (y : B) → slice_get (map g xs) i ≡ Some y → (x : A) × (slice_get xs i ≡ Some x) × (g x ≡ y)
 of_map g [] i y at = absurd (none-some y at)

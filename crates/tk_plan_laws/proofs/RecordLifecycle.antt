@@ -20,7 +20,8 @@ use Rattle.tk_plan_laws.specs.Scripts.{IsRunOf}
 use Rattle.tk_plan.specs.declared.trees.nodes.NumberedNode.{NumberedNode}
 use Rattle.tk_report_text.proofs.Ids.{same_decides}
 use Rattle.tk_plan_laws.proofs.ListenerSteps.{finish_ran, listener_law, ran_of}
-use Rattle.tk_plan_laws.proofs.Model.{Forest, Models, count}
+use Rattle.tk_plan_laws.proofs.Lists.{count}
+use Rattle.tk_plan_laws.proofs.PlanTrees.{IsPlanTree}
 use Rattle.tk_plan_laws.proofs.RecordIds.{AreDescribed, Registration, is_registered, kinds_of_id, label_at, labelled, last_segment, named, one_key, registration, same_kinds, step_or_none}
 use Rattle.tk_plan_laws.proofs.RunRegistrations.{count_kept, counted, not_emitted, not_nil}
 use Rattle.tk_plan_laws.proofs.Positions.{any_at, any_from, earlier, later, counted_once, counted_twice, in_taken, map_get, taken_at}
@@ -205,22 +206,22 @@ module _ (r : Recorded) (by_id : Listens (labels r)) (different : AreDifferent r
 
 -- ---- runs
 
-module _ (all : List NumberedNode) (table : List Descriptor) (f : Forest) (workers : ℕ) (r : Recorded) (plan : Models all table f) (run : IsRunOf all table workers r) where
+module _ (all : List NumberedNode) (table : List Descriptor) (workers : ℕ) (r : Recorded) (plan : IsPlanTree all table) (run : IsRunOf all table workers r) where
   registers_once : RegistersOnce r
   registers_once = record {
-    once = counted all table f workers r plan run;
-    fresh = λ k i at. not_emitted all table f workers r plan run k i (subst (λ t. slice_get (ids_of t) k ≡ Some i) run.over at);
+    once = counted all table workers r plan run;
+    fresh = λ k i at. not_emitted all table workers r plan run k i (subst (λ t. slice_get (ids_of t) k ≡ Some i) run.over at);
   }
 
   pub run_ids_differ : AreDifferent r.table
   run_ids_differ = subst AreDifferent (sym run.over) plan.once
 
   pub run_described : AreDescribed r
-  run_described p e at = named r e.event.key (name r e.event.key) (λ none. not_nil all table f workers r plan run
+  run_described p e at = named r e.event.key (name r e.event.key) (λ none. not_nil all table workers r plan run
       (any_from (is_of []) (labels r) p (label (name r) e.event) (label_at r p e at) ((same_decides (name r e.event.key) []).1 none))) refl
 
   pub run_keeps : KeepsLifecycle r
-  run_keeps = keeps r (listener_law all table f workers r plan run) run_ids_differ run_described registers_once
+  run_keeps = keeps r (listener_law all table workers r plan run) run_ids_differ run_described registers_once
 
   -- of an id one key has events
   pub run_one_key : (id : List SegmentView) (j k : ℕ) → HasId r j id → HasId r k id → j ≡ k

@@ -89,7 +89,7 @@ module _ (P : ℕ → Type 0) where
 -- ---- they are events of the spine
 
 -- a kind that is no registration has another code
-unregistered : (kind : Kind) → kind ≢ Dynamic → (kind_code kind == kind_code Dynamic) ≡ false
+pub unregistered : (kind : Kind) → kind ≢ Dynamic → (kind_code kind == kind_code Dynamic) ≡ false
 unregistered Dynamic h = absurd (h refl)
 unregistered Skipped h = refl
 unregistered Started h = refl

@@ -1,5 +1,5 @@
 -- The events around the units keep the lifecycle by themselves.
-use Rattle.std.proofs.Common.{◌≡◌, ◌<◌, ◌≤◌, ℕ, zero, suc, ◌+◌, ◌⊎◌, ⊎_elim, inl, inr, true, false, not, cond, ◌&&◌, ◌==◌, List, [], ◌∷◌, ◌++◌, length, take, All, Some, slice_get, refl, sym, ap, ◌∙◌, subst, arith, eqb-true, nat_eq}
+use Rattle.std.proofs.Common.{◌≡◌, ◌<◌, ℕ, zero, suc, ◌+◌, ◌⊎◌, ⊎_elim, inl, inr, true, false, not, cond, ◌&&◌, ◌==◌, List, [], ◌∷◌, ◌++◌, length, take, All, Some, slice_get, refl, sym, ap, ◌∙◌, subst, arith, eqb-true, nat_eq}
 use Rattle.std.specs.Option.{option_or}
 use Rattle.std.proofs.lemmas.Bool.{true≢false, and_parts, and_from, or_left, or_parts, or_from, not-true, not_from_false}
 use Rattle.std.proofs.lemmas.Bool.Decides.{nat_tests}
@@ -18,13 +18,11 @@ use Rattle.tk_events.specs.declared.events.Event.{Event}
 use Rattle.tk_events.specs.declared.events.Entry.{Entry}
 use Rattle.tk_events.specs.Event.{is_lawful}
 use Rattle.tk_record.specs.Recorded.{Recorded}
-use Rattle.tk_record.specs.Entries.{of_kind, desc_in, with_entry}
+use Rattle.tk_record.specs.Entries.{of_kind, desc_in}
 use Rattle.tk_record.specs.Mixing.{IsWorkerOf, of_worker}
-use Rattle.tk_query_lifecycle.specs.Lifecycle.{is_event, has_event, runs, HasId, first_entries}
+use Rattle.tk_query_lifecycle.specs.Lifecycle.{is_event, has_event, runs, HasId}
 use Rattle.tk_query_lifecycle.specs.KeepsLifecycle.{steps_of, IsWhole, KeepsLifecycle}
-use Rattle.tk_query_lifecycle.proofs.FirstEntries.{first_more}
-use Rattle.tk_query_lifecycle.proofs.IdMapLemmas.{ids_first, known_or_new}
-use Rattle.tk_query_lifecycle.proofs.ListLemmas.{there}
+use Rattle.tk_query_lifecycle.proofs.KeepLemmas.{unique_ids}
 use Rattle.tk_query_lifecycle.proofs.StepLemmas.{has, has_steps, runs_steps, steps_append, to_whole, Whole, none, skipped, ran}
 use Rattle.tk_queue_session.specs.Emission.{entry_by, entries_by, is_dynamic, registrations}
 use Rattle.tk_engine_runs.specs.Claims.{Claims, IsStrictlyIncreasing, once_below, times}
@@ -39,7 +37,7 @@ use Rattle.tk_events.specs.Registration.{registered_key}
 use Rattle.tk_plan_laws.specs.Scripts.{IsRunOf, may, played}
 use Rattle.tk_plan_laws.specs.Spines.{IsOnSpine, IsSpineEvent}
 use Rattle.tk_plan_laws.proofs.SpineEvents.{spine_finishes}
-use Rattle.tk_plan_laws.proofs.PlanTrees.{models, trees_of}
+use Rattle.tk_plan_laws.proofs.PlanTrees.{plan_tree}
 use Rattle.tk_plan_laws.proofs.RecordIds.{step_or_none}
 use Rattle.tk_plan_laws.proofs.RecordLifecycle.{run_keeps}
 use Rattle.tk_plan_laws.proofs.Positions.{any_at, in_taken, of_map}
@@ -124,22 +122,6 @@ has_its_key kind key es h =
 runs_parts : (key : ℕ) (es : List Entry) → runs key es ≡ true → (has_event Started key es ≡ true) × (has_event Finished key es ≡ false)
 runs_parts key es h = let both = and_parts (has_event Started key es) (not (has_event Finished key es)) h in (both.0, not-true (has_event Finished key es) both.1)
 
--- where a record keeps the lifecycle, no other key gets the id of one of the table
-static_only : (r : Recorded) → AreDifferent r.table → KeepsLifecycle r → (id : List SegmentView) (key : ℕ) → ((es : List Entry) → HasId (record_of r.table es) key id)
-    → (n : ℕ) → n ≤ length r.entries → (other : ℕ) → HasId (first_entries n r) other id → other ≡ key
-static_only r different keeps id key its zero le other h = (ids_first r.table [] refl different).unique id other key h (its [])
-static_only r different keeps id key its (suc n) le other h =
-    let e = there r.entries n (omega (arith, le)) in
-    let past = first_entries n r in
-    let one : suc n ≡ n + 1 = omega arith in
-    let after : first_entries (suc n) r ≡ with_entry past e.0 = ap (λ m. first_entries m r) one ∙ sym (first_more r n e.0 e.1) in
-    let new = subst (λ x. HasId x other id) after h in
-    ⊎_elim {C = other ≡ key}
-    (λ (old : HasId past other id). static_only r different keeps id key its n (omega (arith, le)) other old)
-    (λ (is : (of_kind Dynamic e.0 ≡ true) × (e.0.event.key ≡ other)).
-    absurd (keeps.ids n e.0 e.1 (record { dynamic = is.0; id = id; registered = subst (λ m. HasId (with_entry past e.0) m id) (sym is.1) new; earlier = key; known = its (take n r.entries) })))
-    (known_or_new past e.0 other id new)
-
 -- P are keys of the table that start in the entries before and finish in those after, where no other key has an event
 module _ (table : List Descriptor) (before mid after : List Entry) (P : ℕ → Type 0) (static : (key : ℕ) → P key → key < length table)
     (own : (p : ℕ) (e : Entry) → slice_get (before ++ after) p ≡ Some e → P e.event.key × (of_kind Dynamic e ≡ false))
@@ -201,7 +183,7 @@ module _ (table : List Descriptor) (before mid after : List Entry) (P : ℕ → 
       let there = in_second (before ++ mid) after p e at in
       let running = keeps.below there.0 e there.1 id (always (take there.0 all.entries ++ e ∷ [])) longer in
       let within = slice_get_within all.entries there.0 e there.1 in
-      let one : running.0 ≡ parent.0 = static_only all different keeps (parent_of id) parent.0 parent.2 there.0 (omega (arith, within)) running.0 running.1 in
+      let one : running.0 ≡ parent.0 = unique_ids all different keeps.ids there.0 (omega (arith, within)) (parent_of id) running.0 parent.0 running.1 (parent.2 (take there.0 all.entries)) in
       (parent.0, parent.2 (before ++ take p after), runs_without parent.0 p parent.1 (subst (λ k. runs k (before ++ mid ++ take p after) ≡ true) one (subst (λ l. runs running.0 l ≡ true) there.2 running.2)))
 
   -- each key is whole without the middle
@@ -321,11 +303,11 @@ pub spine_keeps : (nodes : List NumberedNode) (table : List Descriptor) → IsPl
     → ((key : ℕ) → IsOnSpine nodes key → runs key (entries_by 0 (before_of (forest nodes))) ≡ true)
     → KeepsLifecycle (record { table = table; entries = entries_by 0 (before_of (forest nodes)) ++ entries_by 0 (after_of (forest nodes)) })
 spine_keeps nodes table planned numbers each started =
-    let plan = models nodes table planned numbers in
+    let plan = plan_tree nodes table planned numbers in
     without_mid table (entries_by 0 (before_of (forest nodes))) (entries_by 1 (all_emitted nodes table)) (entries_by 0 (after_of (forest nodes))) (λ key. IsOnSpine nodes key × (key < length table))
     (λ key h. h.1)
     (entry_own nodes table (before_of (forest nodes)) (after_of (forest nodes)) each)
     (λ key h. started key h.0)
     (λ key h. spine_finishes nodes key h.0)
     plan.once
-    (run_keeps nodes table (trees_of nodes) 1 (lone_record nodes table) plan (lone_run nodes table))
+    (run_keeps nodes table 1 (lone_record nodes table) plan (lone_run nodes table))

@@ -1,9 +1,8 @@
 -- In a record that keeps the lifecycle, in which each static key has its turn, no static key that is due is left out.
 use Rattle.std.proofs.Common.{◌≡◌, ℕ, zero, suc, ◌+◌, ◌-◌, ◌<◌, ◌≤◌, ◌⊎◌, ⊎_elim, inl, inr, true, false, ◌||◌, not, List, [], ◌∷◌, ◌++◌, length, take, Some, slice_get, if◌then◌else◌, refl, sym, ap, ◌∙◌, subst, arith, eq-eqb, eqb-true}
 use Rattle.std.specs.Prelude.{◌==◌}
-use Rattle.std.specs.Option.{option_or}
 use Rattle.std.proofs.lemmas.Bool.{true≢false, and_from, and_parts}
-use Rattle.std.proofs.lemmas.List.{length-append, length-take-le, take-take, take_all}
+use Rattle.std.proofs.lemmas.List.{length-append, length-take-le, take-take}
 use Rattle.std.proofs.lemmas.Option.{same_Some, slice_get_within}
 use Rattle.tk_ids.specs.IdText.{IsBelow, SegmentView, parent_of}
 use Rattle.tk_ids.specs.Table.{AreDifferent, ids_of}
@@ -13,15 +12,14 @@ use Rattle.tk_events.specs.declared.kinds.Kind.TheVariants.{Dynamic, File, Finis
 use Rattle.tk_events.specs.declared.payloads.Payload.{Payload}
 use Rattle.tk_events.specs.declared.events.Entry.{Entry}
 use Rattle.tk_events.specs.Event.{kind_code}
-use Rattle.tk_record.specs.Entries.{desc_in, of_kind, status_number, with_entry}
+use Rattle.tk_record.specs.Entries.{of_kind, status_number, with_entry}
 use Rattle.tk_record.specs.Record.{IsRecord}
 use Rattle.tk_record.specs.Recorded.{Recorded}
 use Rattle.tk_query_lifecycle.specs.Lifecycle.{HasId, first_entries, has_event, has_run, is_event}
 use Rattle.tk_query_lifecycle.specs.KeepsLifecycle.{IsWhole, KeepsLifecycle, steps_of}
 use Rattle.tk_query_lifecycle.specs.NeverRan.{EachDueKeyRuns, NeverRuns, ParentSucceeds}
-use Rattle.tk_query_lifecycle.proofs.FirstEntries.{desc_first, first_more, its_id}
-use Rattle.tk_query_lifecycle.proofs.IdMapLemmas.{ids_first, known_or_new}
-use Rattle.tk_query_lifecycle.proofs.ListLemmas.{there}
+use Rattle.tk_query_lifecycle.proofs.FirstEntries.{desc_first, its_id}
+use Rattle.tk_query_lifecycle.proofs.IdMapLemmas.{found_static}
 use Rattle.tk_query_lifecycle.proofs.KeepLemmas.{any_at, any_from}
 use Rattle.tk_query_lifecycle.proofs.NeverRanLemmas.{turn}
 use Rattle.tk_query_lifecycle.proofs.StepLemmas.{has, has_run_steps, has_steps}
@@ -29,9 +27,9 @@ use Rattle.tk_plan.specs.Ids.{descriptor, descriptor_in, descriptors, descriptor
 use Rattle.tk_plan.specs.Planned.{IsPlanned}
 use Rattle.tk_plan.specs.Trees.{Forest, Tree, forest, more, no_trees, tree}
 use Rattle.tk_plan.specs.declared.trees.nodes.NumberedNode.{NumberedNode}
-use Rattle.tk_plan_laws.proofs.Lists.{each-append, each_at}
-use Rattle.tk_plan_laws.proofs.Model.{Each}
+use Rattle.tk_plan_laws.proofs.Lists.{Each, each-append, each_at}
 use Rattle.tk_plan_laws.proofs.Positions.{in_taken, of_map}
+use Rattle.tk_plan_laws.proofs.RecordIds.{one_key}
 
 -- the key stands below a static key that was skipped
 pub record IsUnderSkip (r : Recorded) (key : ℕ) : Type 0 where
@@ -153,30 +151,11 @@ module _ (r : Recorded) (is : IsRecord r) (keeps : KeepsLifecycle r) where
 
   module _ (different : AreDifferent r.table) where
     static_in : (key : ℕ) (id : List SegmentView) → slice_get (ids_of r.table) key ≡ Some id → (es : List Entry) → HasId (let x : Recorded = record { table = r.table; entries = es } in x) key id
-    static_in key id its es =
-        let d = of_map (λ (x : Descriptor). x.id) r.table key id its in
-        record { descriptor = d.0; described = ap (λ o. option_or o (desc_in es key)) d.1; id_is = d.2 }
+    static_in key id its es = found_static (record { table = r.table; entries = es }) r.table id key refl its
 
-    -- after the first entries no other key has the id of a static one
-    static_only : (id : List SegmentView) (key : ℕ) → slice_get (ids_of r.table) key ≡ Some id → (n : ℕ) → n ≤ length r.entries → (other : ℕ) → HasId (first_entries n r) other id → other ≡ key
-    static_only id key its zero le other h = (ids_first r.table [] refl different).unique id other key h (static_in key id its [])
-    static_only id key its (suc n) le other h =
-        let e = there r.entries n (omega (arith, le)) in
-        let past = first_entries n r in
-        let one : suc n ≡ n + 1 = omega arith in
-        let after : first_entries (suc n) r ≡ with_entry past e.0 = ap (λ m. first_entries m r) one ∙ sym (first_more r n e.0 e.1) in
-        let new = subst (λ x. HasId x other id) after h in
-        ⊎_elim {C = other ≡ key}
-        (λ (old : HasId past other id). static_only id key its n (omega (arith, le)) other old)
-        (λ (d : (of_kind Dynamic e.0 ≡ true) × (e.0.event.key ≡ other)).
-        absurd (keeps.ids n e.0 e.1 (record { dynamic = d.0; id = id; registered = subst (λ m. HasId (with_entry past e.0) m id) (sym d.1) new; earlier = key; known = static_in key id its (take n r.entries) })))
-        (known_or_new past e.0 other id new)
-
+    -- no other key has the id of a static one
     static_key : (id : List SegmentView) (key other : ℕ) → slice_get (ids_of r.table) key ≡ Some id → HasId r other id → other ≡ key
-    static_key id key other its h =
-        let all = take_all (length r.entries) r.entries (omega arith) in
-        let whole : r ≡ first_entries (length r.entries) r = ap (λ l. let x : Recorded = record { table = r.table; entries = l } in x) (sym all) in
-        static_only id key its (length r.entries) (omega arith) other (subst (λ x. HasId x other id) whole h)
+    static_key id key other its h = one_key r different keeps.ids id other key h (static_in key id its r.entries)
 
     -- a skipped static key has no start and no finish
     skipped_key : (above : ℕ) → has_event Skipped above r.entries ≡ true → (has_event Started above r.entries ≡ false) × (has_event Finished above r.entries ≡ false)
