@@ -18,17 +18,8 @@ use Rattle.tk_plan.specs.Cutting.{root_script, script_of}
 use Rattle.tk_plan.specs.Numbers.{IsNumbered}
 use Rattle.tk_plan.specs.Planned.{IsPlanned}
 use Rattle.tk_report_text.specs.Labels.{labels}
-use Rattle.tk_plan_laws.specs.Scripts.{
-  IsRunOf,
-  ArePlayable,
-  HasKey,
-  id_at,
-  key_of,
-  known_in,
-  record_played,
-  next_key,
-  NextKeysAreFree,
-}
+use Rattle.tk_plan_laws.specs.Scripts.{IsRunOf, ArePlayable, HasKey, id_at, key_of, known_in}
+use Rattle.tk_plan_laws.specs.Scripts.{record_played, next_key, NextKeysAreFree}
 use Rattle.tk_report_text.specs.Reports.{report_of_record}
 use Rattle.tk_plan_laws.specs.Reports.{report_of_plan}
 use Rattle.tk_plan_laws.specs.Listening.{Listens}

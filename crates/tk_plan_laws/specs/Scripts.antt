@@ -1,28 +1,7 @@
 -- What a scripted engine emits: the scripts of a plan's units.
-use Rattle.std.specs.Prelude.{
-  ◌≡◌,
-  ◌<◌,
-  ◌≤◌,
-  ◌⊎◌,
-  ℕ,
-  suc,
-  ◌+◌,
-  ◌==◌,
-  nat_lt,
-  if◌then◌else◌,
-  Bool,
-  true,
-  false,
-  List,
-  [],
-  ◌∷◌,
-  ◌++◌,
-  length,
-  Option,
-  Some,
-  None,
-  slice_get,
-}
+use Rattle.std.specs.Prelude.{◌≡◌, ◌<◌, ◌≤◌, ◌⊎◌, ℕ, suc, ◌+◌, ◌==◌, nat_lt, if◌then◌else◌, Bool}
+use Rattle.std.specs.Prelude.{true, false, List, [], ◌∷◌, ◌++◌, length, Option, Some, None}
+use Rattle.std.specs.Prelude.{slice_get}
 use Rattle.tk_ids.specs.IdText.{SegmentView}
 use Rattle.tk_ids.specs.Table.{unlocked}
 use Rattle.tk_ids.specs.declared.descriptors.Descriptor.{Descriptor}
@@ -36,14 +15,8 @@ use Rattle.tk_record.specs.Entries.{desc}
 use Rattle.tk_plan.specs.declared.trees.nodes.Node.{Node}
 use Rattle.tk_plan.specs.declared.trees.nodes.NumberedNode.{NumberedNode}
 use Rattle.tk_plan.specs.declared.scripts.steps.Act.{Act}
-use Rattle.tk_plan.specs.declared.scripts.steps.Act.TheVariants.{
-  Register,
-  Skip,
-  Start,
-  Report,
-  File,
-  Finish,
-}
+use Rattle.tk_plan.specs.declared.scripts.steps.Act.TheVariants.{Register, Skip, Start, Report}
+use Rattle.tk_plan.specs.declared.scripts.steps.Act.TheVariants.{File, Finish}
 use Rattle.tk_plan.specs.declared.scripts.steps.Step.{Step}
 use Rattle.tk_plan.specs.Trees.{forest}
 use Rattle.tk_plan.specs.Cutting.{before_of, after_of, units_of, script_of, root_script}

@@ -2,12 +2,8 @@
 use Rattle.std.specs.Prelude.{ℕ, List, [], ◌∷◌, map}
 use Rattle.tk_query_nearest.specs.declared.candidates.Candidate.{Candidate}
 use Rattle.tk_query_nearest.specs.declared.candidates.Candidates.{Candidates}
-use Rattle.tk_query_nearest.specs.declared.candidates.Candidates.TheVariants.{
-  Empty,
-  One,
-  Two,
-  Three,
-}
+use Rattle.tk_query_nearest.specs.declared.candidates.Candidates.TheVariants.{Empty, One, Two}
+use Rattle.tk_query_nearest.specs.declared.candidates.Candidates.TheVariants.{Three}
 
 -- the candidates in their order
 abbrev pub listed : Candidates → List Candidate

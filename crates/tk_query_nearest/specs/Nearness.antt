@@ -1,19 +1,6 @@
 -- The events that come nearest to a condition.
-use Rattle.std.specs.Prelude.{
-  ◌≡◌,
-  ℕ,
-  ◌<◌,
-  ◌≤◌,
-  ◌⊎◌,
-  List,
-  length,
-  Option,
-  Some,
-  None,
-  All,
-  AllPairs,
-  Contains,
-}
+use Rattle.std.specs.Prelude.{◌≡◌, ℕ, ◌<◌, ◌≤◌, ◌⊎◌, List, length, Option, Some, None, All}
+use Rattle.std.specs.Prelude.{AllPairs, Contains}
 use Rattle.tk_events.specs.declared.events.Entry.{Entry}
 use Rattle.tk_record.specs.Recorded.{Recorded}
 use Rattle.tk_record.specs.Selections.{Selected}

@@ -1,19 +1,6 @@
 -- What the members of a condition ask of an event, part by part, and how much of it is missing.
-use Rattle.std.specs.Prelude.{
-  ℕ,
-  ◌+◌,
-  min,
-  Bool,
-  false,
-  not,
-  List,
-  [],
-  ◌∷◌,
-  ◌++◌,
-  map,
-  bytes_eq,
-  count_by,
-}
+use Rattle.std.specs.Prelude.{ℕ, ◌+◌, min, Bool, false, not, List, [], ◌∷◌, ◌++◌, map, bytes_eq}
+use Rattle.std.specs.Prelude.{count_by}
 use Rattle.std.specs.List.{list_any}
 use Rattle.tk_events.specs.declared.kinds.Kind.{Kind}
 use Rattle.tk_events.specs.declared.kinds.Kind.TheVariants as kind
@@ -22,33 +9,11 @@ use Rattle.tk_events.specs.declared.payloads.Payload.TheVariants.{Reason, Report
 use Rattle.tk_events.specs.declared.events.Entry.{Entry}
 use Rattle.tk_record.specs.Entries.{of_kind, desc}
 use Rattle.tk_record.specs.Recorded.{Recorded}
-use Rattle.tk_query_conditions.specs.Cond.{
-  Succeeded,
-  Failed,
-  Aborted,
-  Name,
-  Skipped,
-  FailedWith,
-  AbortedWith,
-  Message,
-  File,
-  Cond,
-  Plain,
-  With,
-  HasPairs,
-  All,
-  Any,
-  Conds,
-  Nothing,
-  More,
-}
-use Rattle.tk_query.specs.Holds.{
-  cond_holds,
-  has_descriptor,
-  has_within,
-  message_contains,
-  pairs_list,
-}
+use Rattle.tk_query_conditions.specs.Cond.{Succeeded, Failed, Aborted, Name, Skipped, FailedWith}
+use Rattle.tk_query_conditions.specs.Cond.{AbortedWith, Message, File, Cond, Plain, With, HasPairs}
+use Rattle.tk_query_conditions.specs.Cond.{All, Any, Conds, Nothing, More}
+use Rattle.tk_query.specs.Holds.{cond_holds, has_descriptor, has_within, message_contains}
+use Rattle.tk_query.specs.Holds.{pairs_list}
 use Rattle.tk_query_nearest.specs.declared.parts.TheConstants.{MAX_DISTANCE}
 
 -- one thing that a member of a condition asks of an event
