@@ -76,9 +76,9 @@ pub struct CaseTests<'a, F> {
 
 impl<F: Function> Tests for CaseTests<'_, F> {
     // Runs the cases of a table, and publishes how many there are and where its log lies.
-    fn run<C: Context>(&self, key: u32, test: &mut Reporter<C>) -> Result<Outcome, UnitFault> {
+    fn run<C: Context>(&self, _key: u32, test: &mut Reporter<C>) -> Result<Outcome, UnitFault> {
         let Some(table) = table_of(self.tables, test.descriptor()?.name.as_str()) else {
-            return Err(UnitFault::Own(key));
+            return Err(UnitFault::Text("no table has the test's name"));
         };
         let (alloc, name, cases) = (test.alloc(), table.name, table.cases.len());
         run_cases(self.function, table.cases, test)?;

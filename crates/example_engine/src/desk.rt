@@ -40,6 +40,9 @@ const TESTS: [Test; 6] = [
     ("printer", "cleaning", Isolated, Report("pages", "0")),
 ];
 
+// The fault of a test that isn't in the table.
+const MISSING: &str = "the table has no such test";
+
 // The body of a container: a test for each of two rows.
 #[derive(Drop)]
 struct Sheet(&'static str, &'static str);
@@ -62,8 +65,8 @@ pub struct DeskTests {
 
 impl Tests for DeskTests {
     fn run<C: Context>(&self, key: u32, test: &mut Reporter<C>) -> Result<Outcome, UnitFault> {
-        let number = self.bodies.at(key).ok_or(UnitFault::Own(key))?;
-        let planned = TESTS.get(number as usize).ok_or(UnitFault::Own(key))?;
+        let number = self.bodies.at(key).ok_or(UnitFault::Text(MISSING))?;
+        let planned = TESTS.get(number as usize).ok_or(UnitFault::Text(MISSING))?;
         match planned.3 {
             Abort(reason) => return Ok(Outcome::aborted(test.alloc(), reason)?),
             Fail(message) => return Ok(Outcome::failed(test.alloc(), message)?),

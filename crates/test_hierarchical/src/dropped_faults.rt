@@ -14,6 +14,8 @@ enum Below {
     Succeeds,
     /// Fails with 9.
     Fails,
+    /// Fails with a text.
+    FailsInWords,
     /// Publishes an entry whose keys don't increase.
     PublishesUnlawful,
 }
@@ -23,6 +25,7 @@ impl Body for Below {
         match self {
             Below::Succeeds => Ok(Outcome::Successful),
             Below::Fails => Err(UnitFault::Own(9)),
+            Below::FailsInWords => Err(UnitFault::Text("the tape is missing")),
             Below::PublishesUnlawful => {
                 report_pairs(&[("k", "v"), ("k", "w")], test)?;
                 Ok(Outcome::Successful)
@@ -45,6 +48,8 @@ impl Body for Dropping {
 // What the test of the plan does.
 #[derive(Clone, Copy)]
 enum Doing {
+    /// Answers the fault itself.
+    Answers(Below),
     /// Drops the fault.
     Drops(Below),
     /// A dynamic container drops the fault of its test, and the test that of the container.
@@ -64,6 +69,7 @@ fn register_twice<C: Context>(test: &mut Reporter<C>) -> Result<Outcome, UnitFau
 impl Tests for Doing {
     fn run<C: Context>(&self, _key: u32, test: &mut Reporter<C>) -> Result<Outcome, UnitFault> {
         match *self {
+            Doing::Answers(below) => below.run(test),
             Doing::Drops(below) => Dropping(below).run(test),
             Doing::DropsBelow(below) => {
                 let body = Dropping(below);
@@ -106,6 +112,15 @@ fn a_unit_ends_with_the_dropped_fault(rt: HostRuntime) {
     let own = "unit 0 failed: engine fault 9";
     assert!(rt; is_printed(&rt, alloc, Doing::Drops(Below::Fails), own));
     assert!(rt; is_printed(&rt, alloc, Doing::DropsBelow(Below::Fails), own));
+}
+
+#[test]
+fn a_unit_ends_with_the_text_of_a_fault(rt: HostRuntime) {
+    let alloc = rt.alloc();
+    let missing = "unit 0 failed: the tape is missing";
+    assert!(rt; is_printed(&rt, alloc, Doing::Answers(Below::FailsInWords), missing));
+    assert!(rt; is_printed(&rt, alloc, Doing::Drops(Below::FailsInWords), missing));
+    assert!(rt; is_printed(&rt, alloc, Doing::DropsBelow(Below::FailsInWords), missing));
 }
 
 #[test]

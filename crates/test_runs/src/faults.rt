@@ -41,7 +41,13 @@ fn show_unit_faults(alloc: Global) -> bool {
     let registered = UnitFault::Sink(SinkFault::Register(RegisterFault::Limit));
     are_shown(
         alloc,
-        &[sent, registered, UnitFault::Memory, UnitFault::Own(7)],
+        &[
+            sent,
+            registered,
+            UnitFault::Memory,
+            UnitFault::Own(7),
+            UnitFault::Text("no tape"),
+        ],
     )
 }
 
@@ -61,9 +67,11 @@ fn show_causes(alloc: Global) -> bool {
     let unknown = SendFault::UnknownNode(start(3, 0));
     let sent = RunFault::Engine(0, UnitFault::Sink(SinkFault::Send(unknown)));
     let memory = RunFault::Engine(12, UnitFault::Memory);
+    let text = RunFault::Engine(3, UnitFault::Text("the tape is missing"));
     let rows = [
         (sent, "unit 0 failed: unknown key 3"),
         (memory, "unit 12 failed: out of memory"),
+        (text, "unit 3 failed: the tape is missing"),
     ];
     are_shown_as(alloc, &rows)
 }

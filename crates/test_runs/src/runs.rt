@@ -2,6 +2,7 @@
 use crate::engines::{Asked, Seen, UnitStep, Units, engine};
 use std::alloc::Global;
 use std::sync::Wait;
+use std::sync::atomic::{AtomicU64, Ordering};
 use std::thread::Threads;
 use tk_engine_execute::{
     FailedRun, Results, RunFault, UnitFault, execute, execute_many, execute_with_record,
@@ -206,18 +207,19 @@ fn run_with_record<R: Threads + Wait + Sync>(
     }
 }
 
-// Whether `execute_many` finds a run of these units of which the check is false, where the check is
-// false of every run, or true of every one.
-fn finds_failed_run<R: Threads + Wait + Sync>(
+// Whether `execute_many` finds one of three runs of these units of which the check is false, and how
+// often it calls the check, which is true of the first `passing` runs.
+fn checked_runs<R: Threads + Wait + Sync>(
     rt: &R,
     alloc: Global,
     units: &Units<'_>,
-    passes: bool,
-) -> Option<bool> {
+    passing: u64,
+) -> Option<(bool, u64)> {
     let engine = engine(alloc, units)?;
-    let check = |_results: &Results| passes;
+    let calls = AtomicU64::new(0);
+    let check = |_results: &Results| calls.fetch_add(1, Ordering::SeqCst) < passing;
     let found = execute_many(rt, alloc, &engine, 2, 64, 3, &check).ok()?;
-    Some(found.is_some())
+    Some((found.is_some(), calls.load(Ordering::SeqCst)))
 }
 
 #[test]
@@ -324,14 +326,16 @@ fn a_failed_run_keeps_its_record(rt: HostRuntime) {
     assert!(rt; refused.is_none());
 }
 
-/// Many runs end at the first of which the check is false.
+/// Many runs end at the first of which the check is false, or once there were as many as asked for.
 #[test]
 fn many_runs_end_where_the_check_is_false(rt: HostRuntime) {
     let units = Units::alike(2, &[UnitStep::Start(0)]);
-    let found = finds_failed_run(&rt, rt.alloc(), &units, false);
-    assert!(rt; matches!(found, Some(true)));
-    let none = finds_failed_run(&rt, rt.alloc(), &units, true);
-    assert!(rt; matches!(none, Some(false)));
+    for passing in 0..3u64 {
+        let found = checked_runs(&rt, rt.alloc(), &units, passing);
+        assert!(rt; found == Some((true, passing + 1)), "{passing}");
+    }
+    let none = checked_runs(&rt, rt.alloc(), &units, 3);
+    assert!(rt; matches!(none, Some((false, 3))));
 }
 
 #[test]

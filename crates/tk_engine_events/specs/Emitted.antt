@@ -8,7 +8,7 @@ use Rattle.tk_queue_session.specs.Registering.{RegisterRequest, child_of, parent
 use Rattle.tk_queue_session.specs.Senders.{SenderView}
 use Rattle.tk_engine_execute.specs.Engines.{IsSameSender}
 use Rattle.tk_engine_execute.specs.declared.engines.UnitFault.{UnitFault}
-use Rattle.tk_engine_execute.specs.declared.engines.UnitFault.TheVariants.{Sink, Memory, Own}
+use Rattle.tk_engine_execute.specs.declared.engines.UnitFault.TheVariants.{Sink, Memory, Own, Text}
 use Rattle.tk_engine_events.specs.Events.{registered}
 
 -- b is a after it emitted these events, in this order, and no others
@@ -35,3 +35,4 @@ abbrev pub IsOfSink : UnitFault → Type 0
 IsOfSink (Sink why) = Unit {0}
 IsOfSink Memory = ⊥
 IsOfSink (Own number) = ⊥
+IsOfSink (Text text) = ⊥

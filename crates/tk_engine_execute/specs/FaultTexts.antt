@@ -25,6 +25,7 @@ abbrev pub unit_fault_text : UnitFault → List ℕ
 unit_fault_text (units.Sink fault) = sink_fault_text fault
 unit_fault_text units.Memory = codes "out of memory"
 unit_fault_text (units.Own number) = own_fault_text number
+unit_fault_text (units.Text text) = text.now
 
 abbrev pub run_fault_text : RunFault → List ℕ
 run_fault_text runs.Workers = codes "workers must be 1 to 15"

@@ -40,6 +40,10 @@ pub enum UnitFault {
     /// The engine chooses the number, for instance one for each cause. The caller of `execute`
     /// finds it in `RunFault::Engine`. `OUT_OF_ORDER` and `TWICE` have a meaning already.
     Own(u32),
+    /// A fault of the engine's own, in its words, as `"the tape is missing"`.
+    ///
+    /// `Display` writes the text as it is, here `unit 3 failed: the tape is missing` of a run.
+    Text(&'static str),
 }
 
 impl fmt::Display for UnitFault {
@@ -52,6 +56,7 @@ impl fmt::Display for UnitFault {
             UnitFault::Own(OUT_OF_ORDER) => f.write_str("it breaks the order of its tests"),
             UnitFault::Own(TWICE) => f.write_str("it registers a dynamic id twice"),
             UnitFault::Own(number) => write!(f, "engine fault {number}"),
+            UnitFault::Text(text) => f.write_str(text),
         }
     }
 }
@@ -168,9 +173,10 @@ pub trait Engine: Sync {
     /// `sink.register` returned. JUnit: the body of a `HierarchicalTestEngine`'s node.
     ///
     /// # Errors
-    /// `Sink` where the sink refused an event, `Memory`, or `Own(n)` where the engine itself can't
-    /// go on, with a number of its choice. The worker then stops, and `execute` answers
-    /// `RunFault::Engine(unit, fault)` of the lowest worker that had a fault.
+    /// `Sink` where the sink refused an event, `Memory`, or where the engine itself can't go on
+    /// `Own(n)`, with a number of its choice, or `Text(text)`, with its words. The worker then
+    /// stops, and `execute` answers `RunFault::Engine(unit, fault)` of the lowest worker that had a
+    /// fault.
     fn run<R: Wait, S: Sink>(
         &self,
         rt: &R,

@@ -1,5 +1,5 @@
 //! Runs that failed.
-ghost use Rattle.std.specs.Prelude.{◌≡◌, None, false};
+ghost use Rattle.std.specs.Prelude.{◌≡◌, None};
 
 use crate::run_faults::RunFault;
 use tk_record::Record;

@@ -7,7 +7,7 @@ use Rattle.tk_queue_session.specs.declared.sender_faults.SendFault.TheVariants.{
 use Rattle.tk_queue_session.specs.declared.sender_faults.SendFault.TheVariants.{Unlawful}
 use Rattle.tk_queue_session.specs.declared.sender_faults.SendFault.TheVariants.{UnknownNode}
 use Rattle.tk_engine_execute.specs.declared.engines.UnitFault.{UnitFault}
-use Rattle.tk_engine_execute.specs.declared.engines.UnitFault.TheVariants.{Memory, Own, Sink}
+use Rattle.tk_engine_execute.specs.declared.engines.UnitFault.TheVariants.{Memory, Own, Sink, Text}
 use Rattle.tk_engine_execute.specs.declared.sinks.SinkFault.TheVariants.{Register, Send}
 
 -- an event without its payload
@@ -27,6 +27,7 @@ cause_of (Sink (Send fault)) = Sink (Send (send_cause_of fault))
 cause_of (Sink (Register fault)) = Sink (Register fault)
 cause_of Memory = Memory
 cause_of (Own number) = Own number
+cause_of (Text text) = Text text
 
 -- the cause of the first fault
 abbrev pub first_cause : Option UnitFault → UnitFault → Option UnitFault

@@ -21,6 +21,7 @@ pub(crate) fn cause_of(fault: &UnitFault) -> UnitFault
         }
         UnitFault::Memory => UnitFault::Memory,
         UnitFault::Own(number) => UnitFault::Own(*number),
+        UnitFault::Text(text) => UnitFault::Text(*text),
     }
 }
 

@@ -35,8 +35,8 @@ pub trait Tests {
     /// of their own, have no body: they finish as the plan says.
     ///
     /// # Errors
-    /// What `test` answered, or `Own(n)` where the engine can't go on. A test that fails is no
-    /// error.
+    /// What `test` answered, or where the engine can't go on `Text(text)`, with its words, or
+    /// `Own(n)`. A test that fails is no error.
     fn run<C: Context>(&self, key: u32, test: &mut Reporter<C>) -> Result<Outcome, UnitFault>
         ensures end { IfOk result (λ outcome. may_end self.now key outcome) }
         ensures run { IfOk result (λ outcome.

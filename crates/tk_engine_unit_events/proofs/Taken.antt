@@ -17,7 +17,7 @@ use Rattle.tk_queue_session.specs.declared.sender_faults.RegisterFault.{Register
 use Rattle.tk_queue_session.specs.declared.sender_faults.SendFault.{SendFault}
 use Rattle.tk_engine_execute.specs.declared.engines.TheConstants.{OUT_OF_ORDER}
 use Rattle.tk_engine_execute.specs.declared.engines.UnitFault.{UnitFault}
-use Rattle.tk_engine_execute.specs.declared.engines.UnitFault.TheVariants.{Memory, Own, Sink}
+use Rattle.tk_engine_execute.specs.declared.engines.UnitFault.TheVariants.{Memory, Own, Sink, Text}
 use Rattle.tk_engine_execute.specs.declared.sinks.SinkFault.TheVariants.{Register, Send}
 use Rattle.tk_query_lifecycle.specs.Lifecycle.{HasId}
 use Rattle.tk_engine_lifecycle.specs.Units.{Frame}
@@ -34,7 +34,7 @@ use Rattle.tk_engine_unit_events.specs.Taken.{IsTaken}
 use Rattle.tk_engine_unit_events.specs.Refusals.{ChildStart, HasInnermost, HasRefused, IsChildCause}
 use Rattle.tk_engine_unit_events.specs.Refusals.{IsEmitCause, IsInnermostKey}
 use Rattle.tk_engine_unit_events.specs.UnitSteps.{UnitView, child_request}
-use Rattle.tk_engine_unit_events.specs.steps.Taken.{IsNotedChild, IsOwnCause, IsSinkCause}
+use Rattle.tk_engine_unit_events.specs.steps.Taken.{IsNoText, IsNotedChild, IsOwnCause, IsSinkCause}
 use Rattle.tk_engine_unit_events.specs.declared.running_keys.RunningKey.{RunningKey}
 use Rattle.tk_engine_unit_events.proofs.Children.{HasRegistered, first_id}
 use Rattle.tk_engine_unit_events.proofs.UnitStates.{cancel, static_id}
@@ -128,26 +128,32 @@ send_is_other e = cc
 no_innermost : (key : ℕ) (outer : List ℕ) → [] ≡ key ∷ outer → ⊥
 no_innermost key outer e = cc
 
--- where no first event was refused, the unit is as it was
+-- a fault with which the child wasn't registered
+abbrev pub LeavesSame : UnitFault → Type 0
+LeavesSame (Own number) = Unit {0}
+LeavesSame Memory = Unit {0}
+LeavesSame (Sink (Register why)) = Unit {0}
+LeavesSame (Sink (Send why)) = ⊥
+LeavesSame (Text text) = ⊥
+
+-- the unit is then as it was
 pub left_same : (old new : UnitView) (c : ChildStart) (why : UnitFault)
-    → ((fault : SendFault) → why ≡ Sink (Send fault) → ⊥) → new ≡ old → HasRefused old new c why
-left_same old new c (Own number) other same = same
-left_same old new c Memory other same = same
-left_same old new c (Sink (Register why)) other same = same
-left_same old new c (Sink (Send why)) other same = absurd (other why refl)
-
-pub memory_is_other : {fault : SendFault} → Memory ≡ Sink (Send fault) → ⊥
-memory_is_other e = cc
-
-pub own_is_other : {number : ℕ} {fault : SendFault} → Own number ≡ Sink (Send fault) → ⊥
-own_is_other e = cc
+    → LeavesSame why → new ≡ old → HasRefused old new c why
+left_same old new c (Own number) leaves same = same
+left_same old new c Memory leaves same = same
+left_same old new c (Sink (Register why)) leaves same = same
+left_same old new c (Sink (Send why)) leaves same = absurd leaves
+left_same old new c (Text text) leaves same = absurd leaves
 
 -- a refused registration is no refused event
-pub not_sent : (s : SenderView) (ask : RegisterRequest) (above : List SegmentView)
-    (why : UnitFault) → IsSinkCause s ask above why
-    → (fault : SendFault) → why ≡ Sink (Send fault) → ⊥
-not_sent s ask above why sunk fault is =
-    ⊎_elim (λ a. send_is_other a.1) (λ b. b) (sunk (Send fault) is)
+pub leaves_same : (s : SenderView) (ask : RegisterRequest) (above : List SegmentView)
+    (why : UnitFault) → IsSinkCause s ask above why → IsNoText why → LeavesSame why
+leaves_same s ask above (Own number) sunk no_text = tt
+leaves_same s ask above Memory sunk no_text = tt
+leaves_same s ask above (Sink (Register why)) sunk no_text = tt
+leaves_same s ask above (Sink (Send why)) sunk no_text =
+    ⊎_elim (λ a. send_is_other a.1) (λ b. b) (sunk (Send why) refl)
+leaves_same s ask above (Text text) sunk no_text = no_text text refl
 
 pub same_own : {a b : ℕ} → Own a ≡ Own b → a ≡ b
 same_own e = cc
@@ -285,14 +291,15 @@ module _ (s : ShapeView) (unit : BegunUnit) (sink : SenderView) (u : UnitView)
       (with_id s.plan.table first).id why
       → IsSinkCause sink (child_request c.child first.key c.registered)
       (with_id s.plan.table first).id why
+      → IsNoText why
       → IsChildCause unit u c why
-  unregistered c its noted (Own number) own sunk =
+  unregistered c its noted (Own number) own sunk no_text =
       ⊎_elim
       (λ a. inl (subst (IsTaken unit u) (sym its) (is_taken noted a.0), a.1))
       (λ b. inr ((λ id h. one_innermost id h ∙ b.0), b.1))
       (own number refl)
-  unregistered c its noted Memory own sunk = tt
-  unregistered c its noted (Sink (Register why)) own sunk =
+  unregistered c its noted Memory own sunk no_text = tt
+  unregistered c its noted (Sink (Register why)) own sunk no_text =
       ⊎_elim
       (λ a. inl (((with_id s.plan.table first).id, has_innermost, a.0), same_register a.1))
       (λ b. inr (
@@ -302,8 +309,9 @@ module _ (s : ShapeView) (unit : BegunUnit) (sink : SenderView) (u : UnitView)
             (sym now) b,
       ))
       (sunk (Register why) refl)
-  unregistered c its noted (Sink (Send why)) own sunk =
+  unregistered c its noted (Sink (Send why)) own sunk no_text =
       ⊎_elim (λ a. absurd (send_is_other a.1)) (λ b. absurd b) (sunk (Send why) refl)
+  unregistered c its noted (Text text) own sunk no_text = no_text text refl
 
   -- it was registered, and its first event was refused
   pub unsent : (c : ChildStart) (after : SenderView) (key : ℕ) (why : UnitFault)
@@ -322,6 +330,7 @@ module _ (s : ShapeView) (unit : BegunUnit) (sink : SenderView) (u : UnitView)
         (Ok key)) (sym now) done;
     refused = refused;
   }
+  unsent c after key (Text text) done refused = absurd refused
 
   -- so the unit is left with the child registered
   pub left_registered : (new : UnitView) (c : ChildStart) (after : SenderView) (key : ℕ)
@@ -335,3 +344,4 @@ module _ (s : ShapeView) (unit : BegunUnit) (sink : SenderView) (u : UnitView)
   left_registered new c after key (Sink (Register why)) done refused left = absurd refused
   left_registered new c after key (Sink (Send why)) done refused left =
       (unsent c after key (Sink (Send why)) done refused, left)
+  left_registered new c after key (Text text) done refused left = absurd refused

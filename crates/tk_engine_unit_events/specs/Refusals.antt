@@ -12,7 +12,7 @@ use Rattle.tk_queue_session.specs.declared.sender_faults.SendFault.{SendFault}
 use Rattle.tk_engine_execute.specs.Sinks.{IsSendCause}
 use Rattle.tk_engine_execute.specs.declared.engines.TheConstants.{OUT_OF_ORDER, TWICE}
 use Rattle.tk_engine_execute.specs.declared.engines.UnitFault.{UnitFault}
-use Rattle.tk_engine_execute.specs.declared.engines.UnitFault.TheVariants.{Memory, Own, Sink}
+use Rattle.tk_engine_execute.specs.declared.engines.UnitFault.TheVariants.{Memory, Own, Sink, Text}
 use Rattle.tk_engine_execute.specs.declared.sinks.SinkFault.TheVariants.{Register, Send}
 use Rattle.tk_engine_unit_events.specs.Standing.{BegunUnit}
 use Rattle.tk_engine_unit_events.specs.Taken.{IsTaken}
@@ -23,6 +23,7 @@ abbrev pub IsEmitCause : SenderView → Event → UnitFault → Type 0
 IsEmitCause s e (Sink why) = IsSendCause s e why
 IsEmitCause s e Memory = ⊥
 IsEmitCause s e (Own number) = ⊥
+IsEmitCause s e (Text text) = ⊥
 
 -- the key is the innermost running one
 abbrev pub IsInnermostKey : List ℕ → ℕ → Type 0
@@ -99,6 +100,7 @@ IsChildCause unit u c Memory = Unit {0}
 IsChildCause unit u c (Sink (Register why)) =
     (IsTooLong u c.child.segment × (why ≡ Id TooLong)) ⊎ IsUnregistered u c why
 IsChildCause unit u c (Sink (Send why)) = IsUnsent u c why
+IsChildCause unit u c (Text text) = ⊥
 
 -- What a refused child leaves: the unit as it was; or, where the sink registered the child and
 -- refused its first event, the unit with the child registered.
@@ -108,3 +110,4 @@ HasRefused old new c Memory = new ≡ old
 HasRefused old new c (Sink (Register why)) = new ≡ old
 HasRefused old new c (Sink (Send why)) =
     (unsent : IsUnsent old c why) × (new ≡ record old { sink = unsent.registered })
+HasRefused old new c (Text text) = ⊥

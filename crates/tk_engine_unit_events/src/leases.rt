@@ -13,7 +13,7 @@ ghost use Rattle.tk_engine_unit_events.specs.Standing.{StandsAt};
 ghost use Rattle.tk_engine_unit_events.specs.steps.Standing.{unit_view};
 ghost use Rattle.tk_engine_unit_events.specs.Taken.{IsFaultOfTaken};
 ghost use Rattle.tk_engine_unit_events.specs.Refusals.{IsEmitCause};
-ghost use Rattle.tk_engine_unit_events.specs.steps.Taken.{IsNotedChild, IsOwnCause, IsRegistrationCause, IsSinkCause};
+ghost use Rattle.tk_engine_unit_events.specs.steps.Taken.{IsNoText, IsNotedChild, IsOwnCause, IsRegistrationCause, IsSinkCause};
 
 use crate::running_keys::RunningKey;
 use crate::shapes::Shape;
@@ -104,6 +104,7 @@ impl<'a, S: Sink> Lease<'a, S> {
         ensures sink { IfErr result (IsSinkCause (S.view self.old.sink.now)
             (child_request child.now above.now.key stamp)
             (with_id shape.now.plan.table above.now).id) }
+        ensures no_text { IfErr result IsNoText }
         ensures same { self.new.sink.ghost_name ≡ self.old.sink.ghost_name }
     {
         let id = new_child(alloc, shape, registered, above, child.segment)?;

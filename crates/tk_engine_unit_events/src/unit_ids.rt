@@ -10,7 +10,7 @@ ghost use Rattle.tk_engine_unit_events.specs.RegisteredIds.{is_registered};
 ghost use Rattle.tk_engine_unit_events.specs.Running.{keys_of, with_id, with_ids};
 ghost use Rattle.tk_engine_unit_events.specs.Shapes.{frame};
 ghost use Rattle.tk_engine_unit_events.specs.Taken.{IsFaultOfTaken};
-ghost use Rattle.tk_engine_unit_events.specs.steps.Taken.{IsLongCause, IsNotedChild, IsOwnCause};
+ghost use Rattle.tk_engine_unit_events.specs.steps.Taken.{IsLongCause, IsNoText, IsNotedChild, IsOwnCause};
 
 use crate::running_keys::{RunningKey, running_id};
 use crate::shapes::Shape;
@@ -83,6 +83,7 @@ pub(crate) fn new_child(
         (with_id shape.now.plan.table parent.now).id) }
     ensures long { IfErr result (λ why. (fault : SinkFault) → why ≡ Sunk fault
         → IsLongCause (with_id shape.now.plan.table parent.now).id segment.now fault) }
+    ensures no_text { IfErr result IsNoText }
 {
     let Some(above) = running_id(shape, parent) else {
         return Err(UnitFault::Own(OUT_OF_ORDER));

@@ -1,5 +1,6 @@
 -- What private clauses and proofs alone name of Taken.
-use Rattle.std.specs.Prelude.{◌≡◌, ◌⊎◌, ℕ, true, List, [], ◌∷◌, ◌++◌}
+use Rattle.std.specs.Prelude.{◌≡◌, ◌≢◌, ◌⊎◌, ℕ, true, List, [], ◌∷◌, ◌++◌}
+use Rattle.std.specs.Borrow.{Bor}
 use Rattle.tk_ids.specs.IdText.{FitsLimits, IsId, SegmentView, id_text}
 use Rattle.tk_ids.specs.Table.{HasId as TableHasId}
 use Rattle.tk_ids.specs.declared.descriptors.Descriptor.{Descriptor}
@@ -10,7 +11,7 @@ use Rattle.tk_queue_session.specs.declared.sender_faults.RegisterFault.TheVarian
 use Rattle.tk_engine_execute.specs.Sinks.{IsRegisterCause}
 use Rattle.tk_engine_execute.specs.declared.engines.TheConstants.{OUT_OF_ORDER, TWICE}
 use Rattle.tk_engine_execute.specs.declared.engines.UnitFault.{UnitFault}
-use Rattle.tk_engine_execute.specs.declared.engines.UnitFault.TheVariants.{Memory, Own, Sink}
+use Rattle.tk_engine_execute.specs.declared.engines.UnitFault.TheVariants.{Memory, Own, Sink, Text}
 use Rattle.tk_engine_execute.specs.declared.sinks.SinkFault.{SinkFault}
 use Rattle.tk_engine_execute.specs.declared.sinks.SinkFault.TheVariants.{Register}
 use Rattle.tk_engine_unit_events.specs.RegisteredIds.{is_registered}
@@ -29,12 +30,17 @@ abbrev pub IsRegistrationCause : SenderView → RegisterRequest → UnitFault �
 IsRegistrationCause s ask (Sink why) = IsRegisterCause s s ask why
 IsRegistrationCause s ask Memory = ⊥
 IsRegistrationCause s ask (Own number) = ⊥
+IsRegistrationCause s ask (Text text) = ⊥
 
 -- a fault of the unit's own: the child is noted, or the key above it has no id
 abbrev pub IsOwnCause : Type 0 → List SegmentView → UnitFault → Type 0
 IsOwnCause noted above why =
     (number : ℕ) → why ≡ Own number
     → (noted × (number ≡ TWICE)) ⊎ ((above ≡ []) × (number ≡ OUT_OF_ORDER))
+
+-- a fault that isn't in the words of a body
+abbrev pub IsNoText : UnitFault → Type 0
+IsNoText why = (text : Bor (List ℕ)) → why ≢ Text text
 
 -- a fault because the child's id is too long
 abbrev pub IsLongCause : List SegmentView → SegmentView → SinkFault → Type 0

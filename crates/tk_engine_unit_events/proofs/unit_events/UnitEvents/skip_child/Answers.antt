@@ -9,9 +9,9 @@ use Rattle.tk_engine_unit_events.specs.UnitSteps.{UnitView, child_request, event
 use Rattle.tk_engine_unit_events.specs.declared.running_keys.RunningKey.{RunningKey}
 use Rattle.tk_engine_unit_events.proofs.Registered.{registers, stands_registered, stands_skipped}
 use Rattle.tk_engine_unit_events.proofs.UnitStates.{after_emit}
-use Rattle.tk_engine_unit_events.proofs.Taken.{is_noted, left_registered, left_same, not_sent}
-use Rattle.tk_engine_unit_events.proofs.Taken.{not_taken, own_is_other, runs_none, unregistered}
-use Rattle.tk_engine_unit_events.proofs.Taken.{unsent}
+use Rattle.tk_engine_unit_events.proofs.Taken.{LeavesSame, is_noted, leaves_same}
+use Rattle.tk_engine_unit_events.proofs.Taken.{left_registered, left_same, not_taken, runs_none}
+use Rattle.tk_engine_unit_events.proofs.Taken.{unregistered, unsent}
 use Rattle.tk_engine_unit_events.proofs.UnitSteps.{both_err, err_of, extends_child, extends_more}
 use Rattle.tk_engine_unit_events.proofs.UnitSteps.{grew_registered, grew_same, if_err, if_err_then}
 use Rattle.tk_engine_unit_events.proofs.UnitSteps.{on_err, on_ok, same_view, skipped_child}
@@ -151,7 +151,7 @@ returns-in_err-key-clause-cause g c =
     (sym (ap (λ (v : UnitView). v.running) c.self.view_is))
     (child_start c.args.child.now c.args.registered
     (λ key. event Skipped key c.args.stamp c.args.reason)) refl c.self.invariant.2.noted _
-    c.in_err-key.ensures.own c.in_err-key.ensures.sink)
+    c.in_err-key.ensures.own c.in_err-key.ensures.sink c.in_err-key.ensures.no_text)
 
 pub returns-clause-cause : goal.returns-clause-cause
 returns-clause-cause g c =
@@ -171,7 +171,7 @@ returns-in_err-innermost-clause-refused g c =
     let p = err_from_is_err_and c.from_residual.result c.from_residual.ensures.1 in
     rw (p.1, p.2) (left_same _ _ (child_start c.args.child.now c.args.registered
     (λ key. event Skipped key c.args.stamp c.args.reason)) _
-    (λ fault is. own_is_other (sym c.in_err-innermost.ensures.order ∙ is)) refl)
+    (subst LeavesSame (sym c.in_err-innermost.ensures.order) tt) refl)
 
 pub returns-in_err-key-clause-refused : goal.returns-in_err-key-clause-refused
 returns-in_err-key-clause-refused g c =
@@ -179,10 +179,10 @@ returns-in_err-key-clause-refused g c =
     c.from_residual-in_err-key.ensures.1 in
     rw (p.1, p.2) (left_same _ _ (child_start c.args.child.now c.args.registered
     (λ key. event Skipped key c.args.stamp c.args.reason)) _
-    (not_sent (g.S.Sink.view c.self.inside.lease.sink.now)
+    (leaves_same (g.S.Sink.view c.self.inside.lease.sink.now)
     (child_request c.args.child.now c.in_ok-innermost.innermost.now.key c.args.registered)
     (with_id c.self.inside.shape.now.plan.table c.in_ok-innermost.innermost.now).id _
-    c.in_err-key.ensures.sink)
+    c.in_err-key.ensures.sink c.in_err-key.ensures.no_text)
     (same_view _ _ (c.in_err-key.ensures.err ∙ ap (λ (v : UnitView). v.sink) c.self.view_is)
     (ap (λ (v : UnitView). v.running) c.self.view_is)
     (ap (λ (v : UnitView). v.stamp) c.self.view_is)

@@ -9,9 +9,9 @@ use Rattle.tk_engine_unit_events.specs.UnitSteps.{UnitView, child_request, event
 use Rattle.tk_engine_unit_events.specs.declared.running_keys.RunningKey.{RunningKey}
 use Rattle.tk_engine_unit_events.proofs.Registered.{has_registered, registers, stands_registered}
 use Rattle.tk_engine_unit_events.proofs.Registered.{stands_started}
-use Rattle.tk_engine_unit_events.proofs.Taken.{is_noted, left_registered, left_same}
-use Rattle.tk_engine_unit_events.proofs.Taken.{memory_is_other, not_sent, not_taken, own_is_other}
-use Rattle.tk_engine_unit_events.proofs.Taken.{runs_none, unregistered, unsent}
+use Rattle.tk_engine_unit_events.proofs.Taken.{LeavesSame, is_noted, leaves_same}
+use Rattle.tk_engine_unit_events.proofs.Taken.{left_registered, left_same, not_taken, runs_none}
+use Rattle.tk_engine_unit_events.proofs.Taken.{unregistered, unsent}
 use Rattle.tk_engine_unit_events.proofs.UnitSteps.{err_of, extends_child, extends_more}
 use Rattle.tk_engine_unit_events.proofs.UnitSteps.{grew_registered, grew_same, same_view, stands_at}
 use Rattle.tk_engine_unit_events.proofs.UnitSteps.{stands_same, started_child}
@@ -217,7 +217,8 @@ returns-in_err-key-clause-cause g c =
     (sym (ap (λ (v : UnitView). v.sink) c.self.view_is))
     (sym (ap (λ (v : UnitView). v.running) c.self.view_is))
     (child_start c.args.child.now c.args.registered (λ key. event Started key c.args.stamp Nothing))
-    refl c.self.invariant.2.noted _ c.in_err-key.ensures.own c.in_err-key.ensures.sink)
+    refl c.self.invariant.2.noted _ c.in_err-key.ensures.own c.in_err-key.ensures.sink
+    c.in_err-key.ensures.no_text)
 
 pub returns-in_err-emit-clause-cause : goal.returns-in_err-emit-clause-cause
 returns-in_err-emit-clause-cause g c =
@@ -238,7 +239,7 @@ returns-in_err-reserve-clause-refused g c =
     let p = err_from_is_err_and c.from_residual.result c.from_residual.ensures.1 in
     rw (p.1) (left_same _ _ (child_start c.args.child.now c.args.registered
     (λ key. event Started key c.args.stamp Nothing)) _
-    (λ fault is. memory_is_other (sym p.2 ∙ is))
+    (subst LeavesSame (sym p.2) tt)
     (same_view _ _ (ap (λ (v : UnitView). v.sink) c.self.view_is)
     (ap (λ (l : List RunningKey). keys_of (with_ids g.K.UnitRun.unit.frame.table l))
     c.reserve.ensures.same ∙ ap (λ (v : UnitView). v.running) c.self.view_is)
@@ -251,7 +252,7 @@ returns-in_err-innermost-clause-refused g c =
     c.from_residual-in_err-innermost.ensures.1 in
     rw (p.1) (left_same _ _ (child_start c.args.child.now c.args.registered
     (λ key. event Started key c.args.stamp Nothing)) _
-    (λ fault is. own_is_other (sym (p.2 ∙ c.in_err-innermost.ensures.order) ∙ is))
+    (subst LeavesSame (sym (p.2 ∙ c.in_err-innermost.ensures.order)) tt)
     (same_view _ _ (ap (λ (v : UnitView). v.sink) c.self.view_is)
     (ap (λ (l : List RunningKey). keys_of (with_ids g.K.UnitRun.unit.frame.table l))
     c.reserve.ensures.same ∙ ap (λ (v : UnitView). v.running) c.self.view_is)
@@ -264,10 +265,10 @@ returns-in_err-key-clause-refused g c =
     c.from_residual-in_err-key.ensures.1 in
     rw (p.1, p.2) (left_same _ _ (child_start c.args.child.now c.args.registered
     (λ key. event Started key c.args.stamp Nothing)) _
-    (not_sent (g.S.Sink.view c.self.inside.lease.sink.now)
+    (leaves_same (g.S.Sink.view c.self.inside.lease.sink.now)
     (child_request c.args.child.now c.in_ok-innermost.innermost.now.key c.args.registered)
     (with_id c.self.inside.shape.now.plan.table c.in_ok-innermost.innermost.now).id _
-    c.in_err-key.ensures.sink)
+    c.in_err-key.ensures.sink c.in_err-key.ensures.no_text)
     (same_view _ _ (c.in_err-key.ensures.err ∙ ap (λ (v : UnitView). v.sink) c.self.view_is)
     (ap (λ (l : List RunningKey). keys_of (with_ids g.K.UnitRun.unit.frame.table l))
     c.reserve.ensures.same ∙ ap (λ (v : UnitView). v.running) c.self.view_is)
