@@ -1,3 +1,4 @@
 pub mod NodeViews
 pub mod NodeJson
 pub mod Bodies
+pub mod NodeIds
