@@ -1,9 +1,7 @@
 -- The ids of the nodes of a plan in code, as texts, also of those that a plan refuses.
-use Rattle.std.specs.Prelude.{ℕ, zero, suc, List, [], ◌∷◌, ◌++◌, Option, flat_map, slice_get}
+use Rattle.std.specs.Prelude.{ℕ, List, [], ◌∷◌, ◌++◌, Option, flat_map, slice_get}
 use Rattle.tk_ids.specs.Characters.{slash}
 use Rattle.tk_ids.specs.IdText.{segment_text}
-use Rattle.tk_plan_code.specs.declared.node_ids.Search.{Search}
-use Rattle.tk_plan_code.specs.declared.node_ids.Search.TheVariants.{Found, Left}
 use Rattle.tk_plan_code.specs.declared.plan_nodes.PlanNode.{PlanNode}
 use Rattle.tk_plan_code.specs.declared.plan_nodes.PlanNode.TheOpen.{PlanNode-F}
 use Rattle.tk_plan_code.specs.declared.plan_nodes.PlanNode.TheFolds.{fold-PlanNode}
@@ -22,21 +20,11 @@ abbrev pub layer_ids : PlanNode-F IdsAfter → IdsAfter
 layer_ids n prefix =
     own_id (layer_view n) prefix
     ∷ flat_map (λ ids. ids (own_id (layer_view n) prefix ++ slash ∷ []))
-      ((layer_view n).children ++ (layer_view n).dynamic)
+    ((layer_view n).children ++ (layer_view n).dynamic)
 
 abbrev pub ids_after : PlanNode → List ℕ → List (List ℕ)
 ids_after = fold-PlanNode IdsAfter layer_ids
 
--- the ids of some nodes and of all below them
-abbrev pub ids_of_all : List PlanNode → List ℕ → List (List ℕ)
-ids_of_all nodes prefix = flat_map (λ n. ids_after n prefix) nodes
-
 -- the id of the node with this number in preorder, if the tree has one
 abbrev pub id_at : PlanNode → ℕ → Option (List ℕ)
 id_at root number = slice_get (ids_after root []) number
-
--- the id of that number, or how many more would have to be passed over
-abbrev pub search_in : List (List ℕ) → ℕ → Search
-search_in [] left = Left left
-search_in (id ∷ ids) zero = Found id
-search_in (id ∷ ids) (suc left) = search_in ids left

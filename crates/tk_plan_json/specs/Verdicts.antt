@@ -87,11 +87,6 @@ verdict before ss = first (joined before ss)
 abbrev pub at_node : ℕ → PlanFault → NodeFault
 at_node number fault = record { fault = fault; node = Some number }
 
--- the fault of the node with this number, but no node has the fault `Memory`
-abbrev pub as_node_fault : PlanFault → ℕ → NodeFault
-as_node_fault Memory number = record { fault = Memory; node = None }
-as_node_fault fault number = at_node number fault
-
 -- The verdict, with the number of the node that has the fault: how many nodes are before it in
 -- preorder.
 unfoldable pub located : List Node → List NodeInput → Option NodeFault

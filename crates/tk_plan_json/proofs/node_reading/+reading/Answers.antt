@@ -7,7 +7,8 @@ use Rattle.serde_json.specs.declared.value.Value.{Value}
 use Rattle.tk_plan.specs.declared.trees.nodes.Node.{Node}
 use Rattle.tk_plan.specs.Trees.{contents}
 use Rattle.tk_plan_json_members.specs.Checks.{item_at, first}
-use Rattle.tk_plan_json.specs.Verdicts.{checks, at_node, as_node_fault, FaultsAt}
+use Rattle.tk_plan_json.specs.Verdicts.{checks, at_node, FaultsAt}
+use Rattle.tk_plan_json.specs.steps.Refusals.{as_node_fault}
 use Rattle.tk_plan_json.specs.Progress.{IsNoted}
 use Rattle.tk_plan_json.specs.steps.Progress.{HasBelow}
 use Rattle.tk_plan_json.specs.NodeInputs as spec
