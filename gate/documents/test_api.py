@@ -40,7 +40,7 @@ EDITS = [
     ),
     Edit("a name that is given out", f"{LIBRARY}/plans.rt", "tk_plan_code::{", "tk_plan_code::{plan_value, ", PLAN_VALUE),
     Edit("a name that is not there", f"{LIBRARY}/plans.rt", "PlanNode}", "PlanNode, Nothing}", fault="Nothing has 0 definitions in tk_plan_code"),
-    Edit("a first name that is not given out", f"{LIBRARY}/plans.rt", "pub use tk_plan_reading::build_plan;\n", "", fault="build_plan has 0 definitions in engine_testkit"),
+    Edit("a first name that is not given out", f"{LIBRARY}/plans.rt", "pub use tk_plan_reading::{BuildFault, build_plan};\n", "", fault="build_plan has 0 definitions in engine_testkit"),
     Edit("a name with two definitions", NODES, "/// A node of a plan", "pub struct PlanNode;\n\n/// A node of a plan", fault="PlanNode has 2 definitions"),
 ]
 

@@ -14,6 +14,7 @@ pub use Rattle.tk_plan.specs.Trees.{IsForest, contents, forest}
 pub use Rattle.tk_plan_code.specs.Bodies.{bodies_of, body_at}
 pub use Rattle.tk_plan_code.specs.NodeJson.{plan_data}
 pub use Rattle.tk_plan_code.specs.NodeViews.{node_view, plain}
-pub use Rattle.tk_plan_reading.specs.PlanAnswers.{Answered}
+pub use Rattle.tk_plan_reading.specs.FaultyNodes.{HasNode, faulty_id}
+pub use Rattle.tk_plan_reading.specs.PlanAnswers.{Answered, without_node}
 pub use Rattle.tk_plan_reading.specs.PlanOf.{PlanOf}
 pub use Rattle.tk_plan_runs.specs.Answers.{IsRunReport}

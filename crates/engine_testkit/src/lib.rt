@@ -21,7 +21,7 @@ pub use engine::{
     execute, execute_with_record, file_published, finish, finished, publish_file, register, report,
     reported, run_tests, skip, skipped, start, started,
 };
-pub use plans::{Bodies, ExecutionMode, Plan, PlanFault, PlanNode, build_plan};
+pub use plans::{Bodies, BuildFault, ExecutionMode, Plan, PlanNode, build_plan};
 pub use questions::{
     Condition, Ending, Exact, Exclusive, Execution, Executions, Expect, Failure, InOrder,
     Lifecycle, LifecycleRule, LockAnswer, Loose, exclusive, executions, locks, match_exactly,

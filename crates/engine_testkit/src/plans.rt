@@ -2,5 +2,5 @@
 pub use tk_plan::Plan;
 pub use tk_plan_code::{Bodies, ExecutionMode, PlanLock, PlanNode};
 pub use tk_plan_json_members::PlanFault;
-pub use tk_plan_reading::build_plan;
+pub use tk_plan_reading::{BuildFault, build_plan};
 pub use tk_plan_runs::{ReportFault, write_report};

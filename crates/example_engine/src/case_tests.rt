@@ -4,7 +4,7 @@ ghost use Rattle.engine_testkit.specs.Outcome.TheVariants.{Successful};
 
 use crate::cases::{Case, CaseTable, Function};
 use engine_testkit::{
-    Body, Context, ExecutionMode, Hierarchical, LockMode, Outcome, PlanFault, PlanNode, Reporter,
+    Body, BuildFault, Context, ExecutionMode, Hierarchical, LockMode, Outcome, PlanNode, Reporter,
     Tests, UnitFault, build_plan,
 };
 use std::alloc::{AllocError, Global};
@@ -113,7 +113,7 @@ pub fn case_engine<'a, F: Function>(
     function: &'a F,
     tables: &'a [CaseTable<'a>],
     lock: &'a str,
-) -> Result<Hierarchical<CaseTests<'a, F>>, PlanFault> {
+) -> Result<Hierarchical<CaseTests<'a, F>>, BuildFault> {
     let mut root = PlanNode::container(alloc, ("engine", "cases"), "cases");
     for table in tables {
         root = root.child(node_of(alloc, *table, lock)?)?;

@@ -2,7 +2,7 @@
 use self::Command::{Abort, Fail, File, Report, Rows};
 use self::Planned::{Isolated, Reads, Skipped, Writes};
 use engine_testkit::{
-    Bodies, Body, Context, ExecutionMode, Hierarchical, LockMode, Outcome, PlanFault, PlanNode,
+    Bodies, Body, BuildFault, Context, ExecutionMode, Hierarchical, LockMode, Outcome, PlanNode,
     Reporter, Tests, UnitFault, build_plan,
 };
 use std::alloc::{AllocError, Global};
@@ -107,7 +107,7 @@ fn group_node(alloc: Global, group: &'static str) -> Result<PlanNode<'static>, A
 }
 
 /// Makes the engine.
-pub fn desk_engine(alloc: Global) -> Result<Hierarchical<DeskTests>, PlanFault> {
+pub fn desk_engine(alloc: Global) -> Result<Hierarchical<DeskTests>, BuildFault> {
     let mut groups = Vec::new(alloc);
     for group in GROUPS {
         groups.push(group_node(alloc, group)?)?;

@@ -1,6 +1,6 @@
 //! An engine of two tests: are the numbers 4 and 5 even?
 use engine_testkit::{
-    Context, Hierarchical, Outcome, PlanFault, PlanNode, Reporter, Tests, UnitFault, build_plan,
+    BuildFault, Context, Hierarchical, Outcome, PlanNode, Reporter, Tests, UnitFault, build_plan,
 };
 use std::alloc::Global;
 
@@ -20,7 +20,7 @@ impl Tests for EvenNumbers {
 }
 
 /// Makes the engine.
-pub fn even_numbers(alloc: Global) -> Result<Hierarchical<EvenNumbers>, PlanFault> {
+pub fn even_numbers(alloc: Global) -> Result<Hierarchical<EvenNumbers>, BuildFault> {
     let four = PlanNode::test(alloc, ("number", "4"), "four");
     let five = PlanNode::test(alloc, ("number", "5"), "five");
     let root = PlanNode::container(alloc, ("engine", "even"), "even");

@@ -20,7 +20,7 @@ fn is_refused(alloc: Global, node: Node, fault: &str) -> Result<bool, AllocError
     let node = node?;
     match build_plan(alloc, &node) {
         Ok(_) => Ok(false),
-        Err(why) => Ok(format!(in alloc; "{why:?}")?.as_str() == fault),
+        Err(why) => Ok(format!(in alloc; "{:?}", why.fault)?.as_str() == fault),
     }
 }
 

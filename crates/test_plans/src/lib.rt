@@ -4,6 +4,8 @@
 #[cfg(test)]
 mod faults;
 #[cfg(test)]
+mod faulty_nodes;
+#[cfg(test)]
 mod limits;
 #[cfg(test)]
 mod plans;

@@ -13,7 +13,7 @@ fn is_answered(
     let node = node?;
     match build_plan(alloc, &node) {
         Ok(_) => Ok(answer == "a plan"),
-        Err(why) => Ok(format!(in alloc; "{why:?}")?.as_str() == answer),
+        Err(why) => Ok(format!(in alloc; "{:?}", why.fault)?.as_str() == answer),
     }
 }
 

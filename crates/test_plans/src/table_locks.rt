@@ -4,8 +4,7 @@ use tk_ids::LockMode::{self, Read, ReadWrite};
 use tk_ids::Locks;
 use tk_plan::Plan;
 use tk_plan_code::PlanNode;
-use tk_plan_json_members::PlanFault;
-use tk_plan_reading::build_plan;
+use tk_plan_reading::{BuildFault, build_plan};
 
 // The mode and the name of each lock.
 fn push_locks(alloc: Global, locks: &Locks, text: &mut String) -> Result<(), AllocError> {
@@ -33,7 +32,7 @@ fn one_test(
     alloc: Global,
     is_isolated: bool,
     locks: &[(&'static str, LockMode)],
-) -> Result<Plan, PlanFault> {
+) -> Result<Plan, BuildFault> {
     let mut root = PlanNode::test(alloc, ("engine", "e"), "e");
     if is_isolated {
         root = root.isolated();
@@ -50,7 +49,7 @@ fn declares(
     is_isolated: bool,
     locks: &[(&'static str, LockMode)],
     shown: &str,
-) -> Result<bool, PlanFault> {
+) -> Result<bool, BuildFault> {
     let plan = one_test(alloc, is_isolated, locks)?;
     Ok(shown_locks(alloc, &plan)?.as_str() == shown)
 }
@@ -100,7 +99,7 @@ fn an_isolated_test(rt: HostRuntime) {
 }
 
 // A container that locks, with a test that doesn't, one that does, and a dynamic one.
-fn several(alloc: Global) -> Result<Plan, PlanFault> {
+fn several(alloc: Global) -> Result<Plan, BuildFault> {
     let unlocked = PlanNode::test(alloc, ("t", "1"), "1");
     let locked = PlanNode::test(alloc, ("t", "2"), "2").lock("net", Read)?;
     let root = PlanNode::container(alloc, ("engine", "e"), "e")
@@ -111,7 +110,7 @@ fn several(alloc: Global) -> Result<Plan, PlanFault> {
     build_plan(alloc, &root)
 }
 
-fn shows_several(alloc: Global) -> Result<bool, PlanFault> {
+fn shows_several(alloc: Global) -> Result<bool, BuildFault> {
     let plan = several(alloc)?;
     Ok(shown_locks(alloc, &plan)?.as_str() == "[ ReadWrite db ][ ][ Read net ]")
 }

@@ -1,2 +1,4 @@
 pub mod BodyNumbers
+pub mod IdEscapes
 pub mod JsonObjects
+pub mod NodeSearches

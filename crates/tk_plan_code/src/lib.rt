@@ -4,11 +4,13 @@
 //!   `bodies`.
 //! - Its JSON value, for `build_plan`: `node_values`; lists of members in `json_members`, the words
 //!   in `words`.
+//! - The id of each node, for a fault of `build_plan`: `node_ids`.
 #![tactic(auto)]
 
 mod bodies;
 mod json_members;
 mod modes;
+pub mod node_ids;
 pub mod node_values;
 mod plan_nodes;
 mod words;

@@ -16,7 +16,7 @@ use Rattle.tk_plan.specs.Keys.{note_key, note_locks, lock_keys}
 use Rattle.tk_plan.specs.Planned.{is_lawful_node}
 use Rattle.tk_plan.specs.Trees.{contents}
 use Rattle.tk_plan_json_members.specs.Answers.{Refuses}
-use Rattle.tk_plan_json_members.specs.Refusals.{Faults, Meets}
+use Rattle.tk_plan_json.specs.steps.Refusals.{Faults, Meets}
 use Rattle.tk_plan_json_members.specs.Checks.{first}
 use Rattle.tk_plan_json.specs.Progress.{IsNoted}
 use Rattle.tk_plan_json.specs.steps.Progress.{Addition, state, addition_of, IsChecked, IsAdded}

@@ -1,5 +1,5 @@
 -- Reading one node after another.
-use Rattle.std.proofs.Common.{◌≡◌, ℕ, zero, suc, ◌+◌, ◌-◌, get_or, length, Bool, true, false, ◌==◌, ◌&&◌, List, [], ◌∷◌, ◌++◌, map, flat_map, codes, Option, Some, None, refl, sym, ap, ap₂, ◌∙◌, arith, append_assoc, append-nil}
+use Rattle.std.proofs.Common.{◌≡◌, ℕ, zero, suc, ◌+◌, ◌-◌, get_or, length, Bool, true, false, ◌==◌, ◌&&◌, List, [], ◌∷◌, ◌++◌, map, flat_map, codes, Option, Some, None, option_map, refl, sym, ap, ap₂, ◌∙◌, arith, append_assoc, append-nil}
 use Rattle.std.proofs.lemmas.Bool.Decides.{nat_tests}
 use Rattle.std.proofs.lemmas.List.{map-append, nil_from_length}
 use Rattle.std.proofs.Common.{length-append}
@@ -16,18 +16,18 @@ use Rattle.tk_plan.specs.declared.trees.nodes.NumberedNode.{NumberedNode}
 use Rattle.tk_plan.specs.Trees.{flat, contents}
 use Rattle.tk_plan.specs.Ids.{descriptor_in, descriptors}
 use Rattle.tk_plan_json_members.specs.Checks.{first, member_at}
-use Rattle.tk_plan_json_members.specs.declared.faults.PlanFault.{PlanFault}
+use Rattle.tk_plan_json.specs.declared.node_faults.NodeFault.{NodeFault}
 use Rattle.tk_plan_json.specs.declared.read_nodes.ReadNodes.{ReadNodes}
 use Rattle.tk_plan_json.specs.NodeInputs.{NodeInput, NodeArray, node_input, segment_in, id_of, node_of, below, node_inputs, node_inputs_in, children_of, dynamic_of, children_in, dynamic_in, grown}
-use Rattle.tk_plan_json.specs.Verdicts.{checks, verdict, joined}
+use Rattle.tk_plan_json.specs.Verdicts.{checks, located, at_node}
 use Rattle.tk_plan_json.specs.Progress.{IsNoted}
 use Rattle.tk_plan_json.specs.steps.Progress.{state, IsStarted, IsSpanned, AddsNodes}
 use Rattle.tk_plan_json.proofs.CheckSteps.{noted_same}
-use Rattle.tk_plan_json.proofs.Verdicts.{verdict-append, verdict-cons, nodes-grown, nodes-all, flats-forest, descriptors-forest}
+use Rattle.tk_plan_json.proofs.Verdicts.{located-append, located-cons, nodes-grown, nodes-all, flats-forest, descriptors-forest}
 
 -- of all the sites of k levels more, those that are left are still to be read
 pub record Goes (k : ℕ) (above : List SegmentView) (old now : ReadNodes) (all left : List NodeInput) : Type 0 where
-  pub verdict : verdict (contents old.nodes.items) (flat_map (node_inputs k) all) ≡ verdict (contents now.nodes.items) (flat_map (node_inputs k) left)
+  pub located : located (contents old.nodes.items) (flat_map (node_inputs k) all) ≡ located (contents now.nodes.items) (flat_map (node_inputs k) left)
   pub nodes : old.nodes.items ++ flat_map flat (map (grown k) all) ≡ now.nodes.items ++ flat_map flat (map (grown k) left)
   pub described : old.descriptors.items ++ flat_map (descriptors above) (map (grown k) all) ≡ now.descriptors.items ++ flat_map (descriptors above) (map (grown k) left)
   pub noted : IsNoted now
@@ -43,11 +43,11 @@ met_next earlier met new all rest left d split e m =
 pub met_end : (earlier met : List SegmentView) (all left : List Data) → left ≡ [] → Met earlier met all left → met ≡ earlier ++ map segment_in all
 met_end earlier met all left none m = sym (m.segments ∙ ap (λ l. met ++ map segment_in l) none ∙ append-nil met)
 
-pub after_none : (before : List Node) (xs ys : List NodeInput) → verdict before xs ≡ None → verdict before (xs ++ ys) ≡ verdict (before ++ map node_of xs) ys
-after_none before xs ys e = verdict-append before xs ys ∙ ap (λ o. option_or o (verdict (before ++ map node_of xs) ys)) e
+pub after_none : (before : List Node) (xs ys : List NodeInput) → located before xs ≡ None → located before (xs ++ ys) ≡ located (before ++ map node_of xs) ys
+after_none before xs ys e = located-append before xs ys ∙ ap (λ o. option_or o (located (before ++ map node_of xs) ys)) e
 
-pub after_some : (before : List Node) (xs ys : List NodeInput) (f : PlanFault) → verdict before xs ≡ Some f → verdict before (xs ++ ys) ≡ Some f
-after_some before xs ys f e = verdict-append before xs ys ∙ ap (λ o. option_or o (verdict (before ++ map node_of xs) ys)) e
+pub after_some : (before : List Node) (xs ys : List NodeInput) (f : NodeFault) → located before xs ≡ Some f → located before (xs ++ ys) ≡ Some f
+after_some before xs ys f e = located-append before xs ys ∙ ap (λ o. option_or o (located (before ++ map node_of xs) ys)) e
 
 contents_after : (old new : List NumberedNode) (k : ℕ) (x : NodeInput) → new ≡ old ++ flat (grown k x) → contents new ≡ contents old ++ map node_of (node_inputs k x)
 contents_after old new k x e = ap contents e ∙ map-append _ old (flat (grown k x)) ∙ ap (λ l. contents old ++ l) (nodes-grown k x)
@@ -59,24 +59,24 @@ node_input_next array i j met new left rest v split up n =
     ap (λ vs. node_inputs_in array i met (map view vs)) split ∙ ap₂ (λ k m. node_input array i met (view v) ∷ node_inputs_in array k m (map view rest)) (sym up) (sym n)
 
 module _ (k m : ℕ) (above up : List SegmentView) (old now : ReadNodes) (all rest left : List NodeInput) (x y : NodeInput) (levels : m ≡ k) (same : y ≡ x) (split : rest ≡ x ∷ left) (g : Goes k above old now all rest) where
-  here : verdict (contents now.nodes.items) (node_inputs m y) ≡ verdict (contents now.nodes.items) (node_inputs k x)
-  here = ap₂ (λ n s. verdict (contents now.nodes.items) (node_inputs n s)) levels same
+  here : located (contents now.nodes.items) (node_inputs m y) ≡ located (contents now.nodes.items) (node_inputs k x)
+  here = ap₂ (λ n s. located (contents now.nodes.items) (node_inputs n s)) levels same
 
-  until : verdict (contents old.nodes.items) (flat_map (node_inputs k) all) ≡ verdict (contents now.nodes.items) (node_inputs k x ++ flat_map (node_inputs k) left)
-  until = g.verdict ∙ ap (λ ss. verdict (contents now.nodes.items) (flat_map (node_inputs k) ss)) split
+  until : located (contents old.nodes.items) (flat_map (node_inputs k) all) ≡ located (contents now.nodes.items) (node_inputs k x ++ flat_map (node_inputs k) left)
+  until = g.located ∙ ap (λ ss. located (contents now.nodes.items) (flat_map (node_inputs k) ss)) split
 
-  pub goes_fault : (f : PlanFault) → verdict (contents now.nodes.items) (node_inputs m y) ≡ Some f → verdict (contents old.nodes.items) (flat_map (node_inputs k) all) ≡ Some f
+  pub goes_fault : (f : NodeFault) → located (contents now.nodes.items) (node_inputs m y) ≡ Some f → located (contents old.nodes.items) (flat_map (node_inputs k) all) ≡ Some f
   unfolding here until
   goes_fault f e = until ∙ after_some _ (node_inputs k x) _ f (sym here ∙ e)
 
-  pub goes_next : (new : ReadNodes) → verdict (contents now.nodes.items) (node_inputs m y) ≡ None → up ≡ above → AddsNodes now new (flat (grown m y)) (descriptors up (grown m y)) → Goes k above old new all left
+  pub goes_next : (new : ReadNodes) → located (contents now.nodes.items) (node_inputs m y) ≡ None → up ≡ above → AddsNodes now new (flat (grown m y)) (descriptors up (grown m y)) → Goes k above old new all left
   unfolding here until
   goes_next new e is a =
       let added : new.nodes.items ≡ now.nodes.items ++ flat (grown k x) = a.nodes ∙ ap (λ l. now.nodes.items ++ l) (ap₂ (λ n s. flat (grown n s)) levels same) in
       let stated : new.descriptors.items ≡ now.descriptors.items ++ descriptors above (grown k x) =
       a.descriptors ∙ ap (λ u. now.descriptors.items ++ descriptors u (grown m y)) is ∙ ap₂ (λ n s. now.descriptors.items ++ descriptors above (grown n s)) levels same in
       record {
-        verdict = until ∙ after_none _ (node_inputs k x) _ (sym here ∙ e) ∙ ap (λ b. verdict b (flat_map (node_inputs k) left)) (sym (contents_after _ _ k x added));
+        located = until ∙ after_none _ (node_inputs k x) _ (sym here ∙ e) ∙ ap (λ b. located b (flat_map (node_inputs k) left)) (sym (contents_after _ _ k x added));
         nodes = g.nodes ∙ ap (λ ss. now.nodes.items ++ flat_map flat (map (grown k) ss)) split ∙ sym (append_assoc now.nodes.items (flat (grown k x)) _)
             ∙ ap (λ l. l ++ flat_map flat (map (grown k) left)) (sym added);
         described = g.described ∙ ap (λ ss. now.descriptors.items ++ flat_map (descriptors above) (map (grown k) ss)) split ∙ sym (append_assoc now.descriptors.items (descriptors above (grown k x)) _)
@@ -85,17 +85,17 @@ module _ (k m : ℕ) (above up : List SegmentView) (old now : ReadNodes) (all re
       }
 
 pub goes_end : (k : ℕ) (above : List SegmentView) (old now : ReadNodes) (all : List NodeInput) → Goes k above old now all []
-    → (verdict (contents old.nodes.items) (flat_map (node_inputs k) all) ≡ None) × AddsNodes old now (flat_map flat (map (grown k) all)) (flat_map (descriptors above) (map (grown k) all))
-unfolding joined
-goes_end k above old now all g = (g.verdict, record { nodes = sym (g.nodes ∙ append-nil now.nodes.items); descriptors = sym (g.described ∙ append-nil now.descriptors.items); noted = g.noted })
+    → (located (contents old.nodes.items) (flat_map (node_inputs k) all) ≡ None) × AddsNodes old now (flat_map flat (map (grown k) all)) (flat_map (descriptors above) (map (grown k) all))
+unfolding located
+goes_end k above old now all g = (g.located, record { nodes = sym (g.nodes ∙ append-nil now.nodes.items); descriptors = sym (g.described ∙ append-nil now.descriptors.items); noted = g.noted })
 
 -- where there is nothing to read
 pub goes_nowhere : (k : ℕ) (above : List SegmentView) (old : ReadNodes) (array : NodeArray) (earlier : List SegmentView) (ds : List Data) → ds ≡ [] → IsNoted old
-    → (verdict (contents old.nodes.items) (flat_map (node_inputs k) (node_inputs_in array 0 earlier ds)) ≡ None)
+    → (located (contents old.nodes.items) (flat_map (node_inputs k) (node_inputs_in array 0 earlier ds)) ≡ None)
     × AddsNodes old old (flat_map flat (map (grown k) (node_inputs_in array 0 earlier ds))) (flat_map (descriptors above) (map (grown k) (node_inputs_in array 0 earlier ds)))
-unfolding joined
+unfolding located
 goes_nowhere k above old array earlier ds none noted = (
-  ap (λ l. verdict (contents old.nodes.items) (flat_map (node_inputs k) (node_inputs_in array 0 earlier l))) none,
+  ap (λ l. located (contents old.nodes.items) (flat_map (node_inputs k) (node_inputs_in array 0 earlier l))) none,
   record {
     nodes = sym (append-nil old.nodes.items) ∙ ap (λ l. old.nodes.items ++ flat_map flat (map (grown k) (node_inputs_in array 0 earlier l))) (sym none);
     descriptors = sym (append-nil old.descriptors.items) ∙ ap (λ l. old.descriptors.items ++ flat_map (descriptors above) (map (grown k) (node_inputs_in array 0 earlier l))) (sym none);
@@ -126,10 +126,10 @@ span_written two x at len old rest node len_is x_is two_is at_is =
 
 -- ---- a node, and what is below it
 
-pub check_fault : (m : ℕ) (before : List Node) (s : NodeInput) (f : PlanFault) → first (checks before s) ≡ Some f → verdict before (node_inputs m s) ≡ Some f
+pub check_fault : (m : ℕ) (before : List Node) (s : NodeInput) (f : NodeFault) → option_map (at_node (length before)) (first (checks before s)) ≡ Some f → located before (node_inputs m s) ≡ Some f
 unfolding node_inputs
-check_fault zero before s f e = verdict-cons before s [] ∙ ap (λ o. option_or o (verdict (before ++ node_of s ∷ []) [])) e
-check_fault (suc m) before s f e = verdict-cons before s (flat_map (node_inputs m) (below s)) ∙ ap (λ o. option_or o (verdict (before ++ node_of s ∷ []) (flat_map (node_inputs m) (below s)))) e
+check_fault zero before s f e = located-cons before s [] ∙ ap (λ o. option_or o (located (before ++ node_of s ∷ []) [])) e
+check_fault (suc m) before s f e = located-cons before s (flat_map (node_inputs m) (below s)) ∙ ap (λ o. option_or o (located (before ++ node_of s ∷ []) (flat_map (node_inputs m) (below s)))) e
 
 -- the array that a node with this id has in the member of this name
 abbrev array_with : NodeInput → List SegmentView → List ℕ → Bool → NodeArray
@@ -149,20 +149,20 @@ contents_all old k xs = map-append _ old (flat_map flat (map (grown k) xs)) ∙ 
 
 -- what is below a node stands in two arrays, whose nodes are read one after the other
 module _ (k : ℕ) (old : ReadNodes) (xs ys all : List NodeInput) (parts : all ≡ xs ++ ys) where
-  both : verdict (contents old.nodes.items) (flat_map (node_inputs k) all) ≡ verdict (contents old.nodes.items) (flat_map (node_inputs k) xs ++ flat_map (node_inputs k) ys)
-  both = ap (verdict (contents old.nodes.items)) (ap (flat_map (node_inputs k)) parts ∙ flat_map-append (node_inputs k) xs ys)
+  both : located (contents old.nodes.items) (flat_map (node_inputs k) all) ≡ located (contents old.nodes.items) (flat_map (node_inputs k) xs ++ flat_map (node_inputs k) ys)
+  both = ap (located (contents old.nodes.items)) (ap (flat_map (node_inputs k)) parts ∙ flat_map-append (node_inputs k) xs ys)
 
-  pub first_fault : (f : PlanFault) → verdict (contents old.nodes.items) (flat_map (node_inputs k) xs) ≡ Some f → verdict (contents old.nodes.items) (flat_map (node_inputs k) all) ≡ Some f
+  pub first_fault : (f : NodeFault) → located (contents old.nodes.items) (flat_map (node_inputs k) xs) ≡ Some f → located (contents old.nodes.items) (flat_map (node_inputs k) all) ≡ Some f
   unfolding both
   first_fault f e = both ∙ after_some _ (flat_map (node_inputs k) xs) _ f e
 
-  module _ (above up : List SegmentView) (is : up ≡ above) (mid : ReadNodes) (none : verdict (contents old.nodes.items) (flat_map (node_inputs k) xs) ≡ None)
+  module _ (above up : List SegmentView) (is : up ≡ above) (mid : ReadNodes) (none : located (contents old.nodes.items) (flat_map (node_inputs k) xs) ≡ None)
       (first_part : AddsNodes old mid (flat_map flat (map (grown k) xs)) (flat_map (descriptors up) (map (grown k) xs))) where
-    pub second_verdict : verdict (contents old.nodes.items) (flat_map (node_inputs k) all) ≡ verdict (contents mid.nodes.items) (flat_map (node_inputs k) ys)
+    pub second_located : located (contents old.nodes.items) (flat_map (node_inputs k) all) ≡ located (contents mid.nodes.items) (flat_map (node_inputs k) ys)
     unfolding both
-    second_verdict =
+    second_located =
         both ∙ after_none _ (flat_map (node_inputs k) xs) _ none
-        ∙ ap (λ b. verdict b (flat_map (node_inputs k) ys)) (sym (ap contents first_part.nodes ∙ contents_all old.nodes.items k xs))
+        ∙ ap (λ b. located b (flat_map (node_inputs k) ys)) (sym (ap contents first_part.nodes ∙ contents_all old.nodes.items k xs))
 
     pub both_added : (new : ReadNodes) → AddsNodes mid new (flat_map flat (map (grown k) ys)) (flat_map (descriptors up) (map (grown k) ys))
         → AddsNodes old new (flat_map flat (map (grown k) all)) (flat_map (descriptors above) (map (grown k) all))
@@ -178,13 +178,13 @@ module _ (k : ℕ) (old : ReadNodes) (xs ys all : List NodeInput) (parts : all �
 
 -- A node was checked and put at the end.
 module _ (k m : ℕ) (levels : m ≡ suc k) (old pushed : ReadNodes) (s : NodeInput) (later : List SegmentView) (id : Option (List SegmentView)) (fine : first (checks (contents old.nodes.items) s) ≡ None) (started : IsStarted (state old s.earlier) (state pushed later) s id) where
-  pub below_verdict : verdict (contents old.nodes.items) (node_inputs m s) ≡ verdict (contents pushed.nodes.items) (flat_map (node_inputs k) (below s))
+  pub below_located : located (contents old.nodes.items) (node_inputs m s) ≡ located (contents pushed.nodes.items) (flat_map (node_inputs k) (below s))
   unfolding node_inputs
-  below_verdict =
-      ap (λ n. verdict (contents old.nodes.items) (node_inputs n s)) levels
-      ∙ verdict-cons (contents old.nodes.items) s (flat_map (node_inputs k) (below s))
-      ∙ ap (λ o. option_or o (verdict (contents old.nodes.items ++ node_of s ∷ []) (flat_map (node_inputs k) (below s)))) fine
-      ∙ ap (λ b. verdict b (flat_map (node_inputs k) (below s))) (sym (ap contents started.nodes ∙ map-append _ old.nodes.items (record { node = node_of s; number = 0; span = 1 } ∷ [])))
+  below_located =
+      ap (λ n. located (contents old.nodes.items) (node_inputs n s)) levels
+      ∙ located-cons (contents old.nodes.items) s (flat_map (node_inputs k) (below s))
+      ∙ ap (λ o. option_or (option_map (at_node (length (contents old.nodes.items))) o) (located (contents old.nodes.items ++ node_of s ∷ []) (flat_map (node_inputs k) (below s)))) fine
+      ∙ ap (λ b. located b (flat_map (node_inputs k) (below s))) (sym (ap contents started.nodes ∙ map-append _ old.nodes.items (record { node = node_of s; number = 0; span = 1 } ∷ [])))
 
   grown_here : flat (grown m s) ≡ record { node = node_of s; number = 0; span = suc (length (flat_map flat (map (grown k) (below s)))) } ∷ flat_map flat (map (grown k) (below s))
   unfolding grown
@@ -194,9 +194,9 @@ module _ (k m : ℕ) (levels : m ≡ suc k) (old pushed : ReadNodes) (s : NodeIn
   unfolding grown
   described_here = ap (λ n. descriptors s.above (grown n s)) levels ∙ ap (λ l. descriptor_in (id_of s) (node_of s) ++ l) (descriptors-forest (id_of s) (map (grown k) (below s)))
 
-  pub leaf_verdict : below s ≡ [] → verdict (contents old.nodes.items) (node_inputs m s) ≡ None
-  unfolding joined
-  leaf_verdict none = below_verdict ∙ ap (λ ss. verdict (contents pushed.nodes.items) (flat_map (node_inputs k) ss)) none
+  pub leaf_located : below s ≡ [] → located (contents old.nodes.items) (node_inputs m s) ≡ None
+  unfolding located
+  leaf_located none = below_located ∙ ap (λ ss. located (contents pushed.nodes.items) (flat_map (node_inputs k) ss)) none
 
   pub leaf_added : below s ≡ [] → AddsNodes old pushed (flat (grown m s)) (descriptors s.above (grown m s))
   leaf_added none = record {

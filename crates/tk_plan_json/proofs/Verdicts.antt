@@ -1,5 +1,5 @@
 -- Verdicts of some nodes after others.
-use Rattle.std.proofs.Common.{◌≡◌, ℕ, zero, suc, List, [], ◌∷◌, ◌++◌, map, flat_map, Option, refl, sym, ap, ap₂, ◌∙◌, append_assoc, append-nil}
+use Rattle.std.proofs.Common.{◌≡◌, ℕ, zero, suc, List, [], ◌∷◌, ◌++◌, map, flat_map, length, Option, Some, None, option_map, refl, sym, ap, ap₂, ◌∙◌, append_assoc, append-nil}
 use Rattle.std.proofs.lemmas.List.{map-append}
 use Rattle.std.specs.Option.{option_or}
 use Rattle.tk_base.proofs.Options.{option_or-assoc}
@@ -9,7 +9,9 @@ use Rattle.tk_plan.specs.Trees.{Tree, flat, flats, contents}
 use Rattle.tk_plan.specs.Ids.{descriptors, descriptors_below}
 use Rattle.tk_plan_json_members.specs.Checks.{first}
 use Rattle.tk_plan_json.specs.NodeInputs.{NodeInput, node_of, below, node_inputs, forest_of, grown}
-use Rattle.tk_plan_json.specs.Verdicts.{checks, joined, verdict}
+use Rattle.tk_plan_json.specs.Verdicts.{checks, joined, verdict, located, at_node}
+use Rattle.tk_plan_json_members.specs.declared.faults.PlanFault.{PlanFault}
+use Rattle.tk_plan_json.specs.declared.node_faults.NodeFault.{NodeFault}
 
 first-append : {A : Type 0} (xs ys : List (Option A)) → first (xs ++ ys) ≡ option_or (first xs) (first ys)
 first-append [] ys = refl
@@ -29,6 +31,33 @@ verdict-append before xs ys = ap first (joined-append before xs ys) ∙ first-ap
 pub verdict-cons : (before : List Node) (x : NodeInput) (ys : List NodeInput) → verdict before (x ∷ ys) ≡ option_or (first (checks before x)) (verdict (before ++ node_of x ∷ []) ys)
 unfolding joined
 verdict-cons before x ys = first-append (checks before x) _
+
+-- ---- the verdict with its node
+
+pub located-append : (before : List Node) (xs ys : List NodeInput) → located before (xs ++ ys) ≡ option_or (located before xs) (located (before ++ map node_of xs) ys)
+unfolding located
+located-append before [] ys = ap (λ b. located b ys) (sym (append-nil before))
+located-append before (x ∷ xs) ys =
+    let here = option_map (at_node (length before)) (first (checks before x)) in
+    ap (option_or here) (located-append (before ++ node_of x ∷ []) xs ys ∙ ap (λ b. option_or (located (before ++ node_of x ∷ []) xs) (located b ys)) (append_assoc before (node_of x ∷ []) (map node_of xs)))
+    ∙ sym (option_or-assoc here (located (before ++ node_of x ∷ []) xs) _)
+
+pub located-cons : (before : List Node) (x : NodeInput) (ys : List NodeInput)
+    → located before (x ∷ ys) ≡ option_or (option_map (at_node (length before)) (first (checks before x))) (located (before ++ node_of x ∷ []) ys)
+unfolding located
+located-cons before x ys = refl
+
+fault_first : (n : ℕ) (o : Option PlanFault) (rest : Option NodeFault) → option_map (λ l. l.fault) (option_or (option_map (at_node n) o) rest) ≡ option_or o (option_map (λ l. l.fault) rest)
+fault_first n None rest = refl
+fault_first n (Some f) rest = refl
+
+pub verdict-located : (before : List Node) (ss : List NodeInput) → verdict before ss ≡ option_map (λ l. l.fault) (located before ss)
+unfolding located joined
+verdict-located before [] = refl
+verdict-located before (s ∷ ss) =
+    verdict-cons before s ss
+    ∙ ap (option_or (first (checks before s))) (verdict-located (before ++ node_of s ∷ []) ss)
+    ∙ sym (fault_first (length before) (first (checks before s)) (located (before ++ node_of s ∷ []) ss))
 
 -- ---- what the nodes are
 

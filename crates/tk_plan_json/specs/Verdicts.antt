@@ -1,7 +1,9 @@
 -- What is wrong with the nodes of a plan.
+use Rattle.std.specs.Prelude.{◌≡◌, Result, Ok, Err}
 use Rattle.std.specs.Prelude.{ℕ, ◌&&◌, ◌||◌, ◌==◌, List, [], ◌∷◌, ◌++◌, length, Bool, true, false}
 use Rattle.std.specs.Prelude.{not, nat_lt, nat_le, Option, Some, None, option_map, if◌then◌else◌}
 use Rattle.std.specs.List.{list_any, count_by}
+use Rattle.std.specs.Option.{option_or}
 use Rattle.std.specs.Str.{bytes_eq}
 use Rattle.tk_ids.specs.IdText.{SegmentView, id_text}
 use Rattle.tk_ids.specs.declared.ids.TheConstants.{MAX_BYTES, MAX_SEGMENTS}
@@ -18,7 +20,9 @@ use Rattle.tk_plan_json.specs.NodeInputs.{NodeInput, segment_of, node_of, repeat
 use Rattle.tk_plan_json_members.specs.declared.faults.PlanFault.{PlanFault}
 use Rattle.tk_plan_json_members.specs.declared.faults.PlanFault.TheVariants.{Field, Id, Table, Deep}
 use Rattle.tk_plan_json_members.specs.declared.faults.PlanFault.TheVariants.{TooManyResources}
-use Rattle.tk_plan_json_members.specs.declared.faults.PlanFault.TheVariants.{EntryKeyTwice}
+use Rattle.tk_plan_json_members.specs.declared.faults.PlanFault.TheVariants.{EntryKeyTwice, Memory}
+use Rattle.tk_plan_json_members.specs.Refusals.{IsFault}
+use Rattle.tk_plan_json.specs.declared.node_faults.NodeFault.{NodeFault}
 use Rattle.tk_plan_json.specs.declared.limits.TheConstants.{MAX_LEVELS}
 
 -- this, where it is true
@@ -76,3 +80,27 @@ joined before (s ∷ ss) = checks before s ++ joined (before ++ node_of s ∷ []
 -- the first fault of some nodes, after the nodes before them in preorder
 abbrev pub verdict : List Node → List NodeInput → Option PlanFault
 verdict before ss = first (joined before ss)
+
+-- ---- whose fault it is
+
+-- the fault of the node with this number
+abbrev pub at_node : ℕ → PlanFault → NodeFault
+at_node number fault = record { fault = fault; node = Some number }
+
+-- The verdict, with the number of the node that has the fault: how many nodes are before it in
+-- preorder.
+unfoldable pub located : List Node → List NodeInput → Option NodeFault
+located before [] = None
+located before (s ∷ ss) =
+    option_or (option_map (at_node (length before)) (first (checks before s)))
+    (located (before ++ node_of s ∷ []) ss)
+
+-- the fault and its node are those, unless memory ran out, and then no node has the fault
+pub record FaultsAt (v : Option NodeFault) (e : NodeFault) : Type 0 where
+  pub found : IsFault (λ f. v ≡ Some e) e.fault
+  pub memory : e.fault ≡ Memory → e.node ≡ None
+
+-- there is no fault, and P holds; or the fault and its node are those
+abbrev pub MeetsAt : {A : Type 0} → Option NodeFault → (A → Type 0) → Result A NodeFault → Type 0
+MeetsAt v P (Ok x) = (v ≡ None) × P x
+MeetsAt v P (Err e) = FaultsAt v e

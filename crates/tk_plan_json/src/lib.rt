@@ -6,12 +6,14 @@
 //! - Where a node stands, and the value that stands for it: `node_inputs`.
 //! - What is kept while reading: `read_nodes`, the segments of one parent's children in
 //!   `siblings`, lock keys in `lock_keys`.
+//! - A fault with the number of its node: `node_faults`.
 //! - Limits: `limits`.
 #![tactic(auto)]
 
 mod limits;
 mod lock_keys;
 mod node_checks;
+mod node_faults;
 mod node_fields;
 mod node_inputs;
 mod node_members;
@@ -20,3 +22,4 @@ pub mod read_nodes;
 mod siblings;
 
 pub use limits::MAX_LEVELS;
+pub use node_faults::NodeFault;

@@ -10,7 +10,7 @@ ghost use Rattle.tk_plan_json_members.specs.Answers.{Reads};
 ghost use Rattle.tk_plan_json_members.specs.Checks.{first};
 ghost use Rattle.tk_plan_json.specs.steps.Fields.{HasFields, checked_of};
 ghost use Rattle.tk_plan_json.specs.Verdicts.{id_fault, node_check, is_kind, checks};
-ghost use Rattle.tk_plan_json_members.specs.Refusals.{Meets};
+ghost use Rattle.tk_plan_json.specs.steps.Refusals.{Meets};
 ghost use Rattle.tk_plan_json.specs.declared.limits.TheConstants.{MAX_LEVELS};
 ghost use Rattle.tk_plan_json.specs.steps.CodeValues.{seen, above_of, json_segment_text, as_plan_fault, IsNamed};
 ghost use Rattle.tk_plan_json.specs.Progress.{IsNoted};

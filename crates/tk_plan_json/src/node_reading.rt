@@ -4,17 +4,18 @@ ghost use Rattle.serde_json.specs.View.{view};
 ghost use Rattle.tk_plan.specs.Trees.{flat, contents};
 ghost use Rattle.tk_plan.specs.Ids.{descriptors};
 ghost use Rattle.tk_plan_json_members.specs.Checks.{first};
-ghost use Rattle.tk_plan_json.specs.Verdicts.{checks, verdict};
+ghost use Rattle.tk_plan_json.specs.Verdicts.{checks, located, MeetsAt};
 ghost use Rattle.tk_ids.specs.declared.tables.TheConstants.{MAX_DESCRIPTORS};
 ghost use Rattle.tk_plan_json.specs.declared.limits.TheConstants.{MAX_LEVELS};
-ghost use Rattle.tk_plan_json.specs.steps.Progress.{AddsGroup, AddsTree, NodeGroup, verdict_of_group, verdict_of_node, levels_below, levels_from};
+ghost use Rattle.tk_plan_json.specs.steps.Progress.{AddsGroup, AddsTree, NodeGroup, located_of_group, located_of_node, levels_below, levels_from};
 ghost use Rattle.tk_plan_json.specs.Progress.{IsNoted, HasRead};
 ghost use Rattle.tk_plan_json.specs.steps.Progress.{state, IsDescribed, IsAdded, IsStarted, IsSpanned};
-ghost use Rattle.tk_plan_json_members.specs.Refusals.{Meets};
+ghost use Rattle.tk_plan_json.specs.steps.Refusals.{Meets};
 ghost use Rattle.tk_plan_json.specs.steps.CodeValues.{seen, node_at, array_at};
 ghost use Rattle.tk_plan_json.specs.NodeInputs.{node_inputs, node_inputs_in, root_at, below, grown, id_of, segment_in, segment_of};
 
 use crate::node_checks::check_node;
+use crate::node_faults::NodeFault;
 use crate::node_fields::into_below;
 use crate::node_inputs::{BelowMember, NodeInput, NodePlace};
 use crate::read_nodes::ReadNodes;
@@ -122,12 +123,12 @@ fn read_node(
     siblings: &mut Siblings,
     place: NodePlace<'_>,
     value: Value,
-) -> Result<(), PlanFault>
+) -> Result<(), NodeFault>
     requires noted { IsNoted read.old }
     requires level { place.level ≤ MAX_LEVELS + 1 }
     ensures { let s = node_at siblings.old place.entry (view value) in
         let levels = levels_from place.entry.level in
-        Meets (verdict_of_node read.old levels s)
+        MeetsAt (located_of_node read.old levels s)
         (λ _. AddsTree read.old read.new levels s
         × (siblings.new ≡ siblings.old ++ segment_of s ∷ [])) result }
 {
@@ -136,13 +137,14 @@ fn read_node(
         place,
         value: &value,
     };
-    match start_node(alloc, read, siblings, node_input)? {
-        Some(id) => {
+    match start_node(alloc, read, siblings, node_input) {
+        Ok(Some(id)) => {
             read_below(alloc, read, place, &id, value)?;
             end_node(read, at);
             Ok(())
         }
-        None => Ok(()),
+        Ok(None) => Ok(()),
+        Err(fault) => Err(NodeFault::of_node(fault, at)),
     }
 }
 
@@ -154,14 +156,14 @@ fn read_below(
     place: NodePlace<'_>,
     id: &UniqueId,
     value: Value,
-) -> Result<(), PlanFault>
+) -> Result<(), NodeFault>
     requires noted { IsNoted read.old }
     requires level { place.level ≤ MAX_LEVELS }
     requires id { id.now ≡ id_of (node_at [] place (view value)) }
     ensures { let s = node_at [] place.entry (view value) in
         let levels = levels_below place.entry.level in
         let group : NodeGroup = record { above = id_of s; levels = levels; nodes = below s } in
-        Meets (verdict_of_group read.old group) (λ _. AddsGroup read.old read.new group)
+        MeetsAt (located_of_group read.old group) (λ _. AddsGroup read.old read.new group)
         result }
 {
     let (children, dynamic) = into_below(alloc, place.is_static, value);
@@ -197,14 +199,14 @@ fn read_all(
     member: BelowMember,
     id: &UniqueId,
     values: Vec<Value>,
-) -> Result<(), PlanFault>
+) -> Result<(), NodeFault>
     requires noted { IsNoted read.old }
     requires level { parent.level ≤ MAX_LEVELS }
     ensures { let array = array_at parent.entry member id.now in
         let ss = node_inputs_in array 0 siblings.old (map view values.items) in
         let levels = levels_below parent.entry.level in
         let group : NodeGroup = record { above = id.now; levels = levels; nodes = ss } in
-        Meets (verdict_of_group read.old group) (λ _. AddsGroup read.old read.new group
+        MeetsAt (located_of_group read.old group) (λ _. AddsGroup read.old read.new group
         × (siblings.new ≡ siblings.old ++ map segment_in (map view values.items))) result }
 {
     if values.is_empty() {
@@ -230,12 +232,12 @@ fn read_root(
     read: &mut ReadNodes,
     takes_files: bool,
     root: Value,
-) -> Result<(), PlanFault>
+) -> Result<(), NodeFault>
     requires nodes { read.old.nodes.items ≡ [] }
     requires descriptors { read.old.descriptors.items ≡ [] }
     requires noted { IsNoted read.old }
     ensures { let s = root_at takes_files (view root) in
-        Meets (verdict [] (node_inputs MAX_LEVELS s)) (λ _. HasRead s read.new) result }
+        MeetsAt (located [] (node_inputs MAX_LEVELS s)) (λ _. HasRead s read.new) result }
 {
     let mut siblings = Siblings::with_capacity(alloc, 1)?;
     let place = NodePlace {
@@ -251,12 +253,12 @@ fn read_root(
 /// Reads the nodes of a plan: the root and all below it.
 ///
 /// # Errors
-/// The first fault of the nodes in preorder, of each node in this order: `Deep`, `Field`,
-/// `EntryKeyTwice`, `Id`, `Table`, `TooManyResources`. Where a request for memory is refused, the
-/// fault is `Memory`.
-pub fn read_nodes(alloc: Global, takes_files: bool, root: Value) -> Result<ReadNodes, PlanFault>
+/// The first fault of the nodes in preorder, with the number of the node that has it; of each node
+/// in this order: `Deep`, `Field`, `EntryKeyTwice`, `Id`, `Table`, `TooManyResources`. Where a
+/// request for memory is refused, the fault is `Memory`, and no node has it.
+pub fn read_nodes(alloc: Global, takes_files: bool, root: Value) -> Result<ReadNodes, NodeFault>
     ensures { let s = root_at takes_files (view root) in
-        Meets (verdict [] (node_inputs MAX_LEVELS s)) (HasRead s) result }
+        MeetsAt (located [] (node_inputs MAX_LEVELS s)) (HasRead s) result }
 {
     let mut read = ReadNodes::new(alloc);
     read_root(alloc, &mut read, takes_files, root)?;

@@ -17,7 +17,11 @@ use Rattle.tk_plan.specs.Script.{moves, moves_below}
 use Rattle.tk_plan.proofs.Grows.{is_forest, forest-flats}
 use Rattle.tk_plan_json_members.specs.Answers.{Refuses}
 use Rattle.tk_plan_json_members.specs.Checks.{first}
-use Rattle.tk_plan_json.specs.Verdicts.{verdict, is_kind, when}
+use Rattle.std.specs.Option.{option_and_then}
+use Rattle.tk_plan_json.proofs.Verdicts.{verdict-located}
+use Rattle.tk_plan_json.specs.Verdicts.{verdict, located, FaultsAt, is_kind, when}
+use Rattle.tk_plan_json.specs.declared.node_faults.NodeFault.{NodeFault}
+use Rattle.tk_plan_reading.specs.FaultyNodes.{HasNode, after_top, faulty_node}
 use Rattle.tk_plan_reading.specs.PlanOf.{PlanOf, top, takes_files_in, root_of, first_fault, events_fault, ok_unless}
 use Rattle.tk_plan_json.specs.Progress.{IsNoted}
 use Rattle.tk_plan_json_members.specs.Refusals.{IsFault}
@@ -38,6 +42,18 @@ fault_as P Q TooManyEvents f r = f TooManyEvents r
 fault_as P Q Deep f r = f Deep r
 fault_as P Q Memory f r = tt
 
+-- what holds of this fault
+pub fault_known : (P : PlanFault → Type 0) (e : PlanFault) → IsFault (λ _. P e) e → IsFault P e
+fault_known P Json r = r
+fault_known P (Field p) r = r
+fault_known P (Id i) r = r
+fault_known P (Table t) r = r
+fault_known P TooManyResources r = r
+fault_known P EntryKeyTwice r = r
+fault_known P TooManyEvents r = r
+fault_known P Deep r = r
+fault_known P Memory r = tt
+
 pub refuses_as : (wrong : Option (List ℕ)) (Q : PlanFault → Type 0) (e : PlanFault) → ((p : List ℕ) → wrong ≡ Some p → Q (Field p)) → Refuses wrong e → IsFault Q e
 refuses_as wrong Q (Field p) f r = f p r
 refuses_as wrong Q Memory f r = tt
@@ -55,6 +71,13 @@ answer top nodes s t = ok_unless (first (option_map Field top ∷ nodes ∷ even
 pub top_fault : (v : Data) (p : List ℕ) → top [] v ≡ Some p → PlanOf v ≡ Err (Field p)
 top_fault v p e = ap (λ o. ok_unless (first_fault o (root_of v) (grown 60 (root_of v))) (grown 60 (root_of v))) e
 
+number_after : Option (List ℕ) → NodeInput → Option ℕ
+number_after o s = option_and_then (λ l. l.node) (after_top o (located [] (node_inputs 60 s)))
+
+pub no_faulty_node : (v : Data) (p : List ℕ) → top [] v ≡ Some p → None ≡ faulty_node v
+unfolding number_after
+no_faulty_node v p e = sym (ap (λ o. number_after o (root_of v)) e)
+
 module _ (v r : Data) (found : get (codes "root") v ≡ Some r) (fine : top [] v ≡ None) where
   at_root : PlanOf v ≡ answer None (verdict [] (node_inputs 60 (root_at (takes_files_in v) r))) (root_at (takes_files_in v) r) (grown 60 (root_at (takes_files_in v) r))
   unfolding answer
@@ -62,9 +85,28 @@ module _ (v r : Data) (found : get (codes "root") v ≡ Some r) (fine : top [] v
       ap (λ o. ok_unless (first_fault (top [] v) (root_at (takes_files_in v) (unwrap_or o null)) (grown 60 (root_at (takes_files_in v) (unwrap_or o null)))) (grown 60 (root_at (takes_files_in v) (unwrap_or o null)))) found
       ∙ ap (λ o. ok_unless (first_fault o (root_at (takes_files_in v) r) (grown 60 (root_at (takes_files_in v) r))) (grown 60 (root_at (takes_files_in v) r))) fine
 
+  pub faulty_node_here : (s : NodeInput) → s ≡ root_at (takes_files_in v) r → option_and_then (λ l. l.node) (located [] (node_inputs 60 s)) ≡ faulty_node v
+  unfolding number_after
+  faulty_node_here s is =
+      ap (λ x. number_after None x) is
+      ∙ sym (ap (λ o. number_after (top [] v) (root_at (takes_files_in v) (unwrap_or o null))) found ∙ ap (λ o. number_after o (root_at (takes_files_in v) r)) fine)
+
   pub node_fault : (s : NodeInput) (f : PlanFault) → s ≡ root_at (takes_files_in v) r → verdict [] (node_inputs 60 s) ≡ Some f → PlanOf v ≡ Err f
   unfolding at_root answer
   node_fault s f is e = at_root ∙ ap (λ o. answer None o (root_at (takes_files_in v) r) (grown 60 (root_at (takes_files_in v) r))) (ap (λ x. verdict [] (node_inputs 60 x)) (sym is) ∙ e)
+
+  pub node_faults : (s : NodeInput) (e : NodeFault) → s ≡ root_at (takes_files_in v) r → FaultsAt (located [] (node_inputs 60 s)) e → IsFault (λ f. PlanOf v ≡ Err f) e.fault
+  node_faults s e is at =
+      fault_known (λ f. PlanOf v ≡ Err f) e.fault
+      (fault_as (λ _. located [] (node_inputs 60 s) ≡ Some e) (λ _. PlanOf v ≡ Err e.fault) e.fault
+      (λ _ w. node_fault s e.fault is (verdict-located [] (node_inputs 60 s) ∙ ap (option_map (λ l. l.fault)) w)) at.found)
+
+  pub node_named : (s : NodeInput) (e : NodeFault) → s ≡ root_at (takes_files_in v) r → FaultsAt (located [] (node_inputs 60 s)) e → HasNode (faulty_node v) e.fault e.node
+  node_named s e is at = (
+    fault_as (λ _. located [] (node_inputs 60 s) ≡ Some e) (λ _. e.node ≡ faulty_node v) e.fault
+        (λ _ w. sym (ap (option_and_then (λ l. l.node)) w) ∙ faulty_node_here s is) at.found,
+    at.memory,
+  )
 
   pub no_node_fault : (s : NodeInput) → s ≡ root_at (takes_files_in v) r → verdict [] (node_inputs 60 s) ≡ None → PlanOf v ≡ ok_unless (events_fault (grown 60 s)) (grown 60 s)
   unfolding at_root answer

@@ -10,6 +10,7 @@ pub use Rattle.tk_plan.specs.Planned
 pub use Rattle.tk_plan.specs.Laws
 pub use Rattle.tk_plan_code.specs.NodeViews
 pub use Rattle.tk_plan_code.specs.NodeJson
+pub use Rattle.tk_plan_code.specs.NodeIds
 pub use Rattle.tk_plan_json_members.specs.Checks
 pub use Rattle.tk_plan_json_members.specs.Rows
 pub use Rattle.tk_plan_json_members.specs.Contents
@@ -18,6 +19,8 @@ pub use Rattle.tk_plan_json.specs.Verdicts
 pub use Rattle.tk_plan_json_members.specs.Refusals
 pub use Rattle.tk_plan_json_members.specs.FaultTexts
 pub mod PlanOf
+pub mod FaultyNodes
+pub mod BuildFaultTexts
 pub mod PlanAnswers
 pub mod PlanLaws
 pub mod steps

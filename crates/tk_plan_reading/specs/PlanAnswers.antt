@@ -11,6 +11,7 @@ use Rattle.tk_plan_reading.specs.PlanOf.{PlanOf}
 use Rattle.tk_plan_json_members.specs.Refusals.{IsFault}
 use Rattle.tk_plan_json_members.specs.declared.faults.PlanFault.{PlanFault}
 use Rattle.tk_plan_json_members.specs.declared.faults.PlanFault.TheVariants.{Json}
+use Rattle.tk_plan_reading.specs.declared.build_faults.BuildFault.{BuildFault}
 
 -- a tree's nodes in preorder with their numbers, and the descriptors of the static ones
 abbrev pub outline : Tree → Outline
@@ -20,6 +21,11 @@ outline t = record { nodes = numbered (flat t); table = descriptors [] t }
 abbrev pub Answered : Result Tree PlanFault → Result Outline PlanFault → Type 0
 Answered plan (Ok p) = (t : Tree) × (plan ≡ Ok t) × (p ≡ outline t)
 Answered plan (Err e) = IsFault (λ f. plan ≡ Err f) e
+
+-- the answer, whichever node has the fault
+abbrev pub without_node : Result Outline BuildFault → Result Outline PlanFault
+without_node (Ok p) = Ok p
+without_node (Err e) = Err e.fault
 
 -- the value that the bytes are
 abbrev pub value_of : List ℕ → Option Data

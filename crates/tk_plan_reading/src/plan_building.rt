@@ -1,14 +1,36 @@
 //! Building a plan from nodes in code.
+ghost use Rattle.std.specs.Prelude.{◌≡◌, IfErr, IfOk};
+ghost use Rattle.std.specs.Option.{option_and_then};
+ghost use Rattle.tk_plan_code.specs.NodeIds.{id_at};
 ghost use Rattle.tk_plan_code.specs.NodeJson.{plan_data};
-ghost use Rattle.tk_plan_reading.specs.PlanAnswers.{Answered};
+ghost use Rattle.tk_plan_reading.specs.FaultyNodes.{HasNode, faulty_id};
+ghost use Rattle.tk_plan_reading.specs.PlanAnswers.{Answered, without_node};
 ghost use Rattle.tk_plan_reading.specs.PlanOf.{PlanOf};
 
+use crate::build_faults::BuildFault;
 use crate::plan_reading::{nodes_of, plan_from};
-use std::alloc::Global;
+use std::alloc::{AllocError, Global};
 use tk_plan::Plan;
 use tk_plan_code::PlanNode;
+use tk_plan_code::node_ids::write_id;
 use tk_plan_code::node_values::plan_value;
-use tk_plan_json_members::PlanFault;
+use tk_plan_json::NodeFault;
+
+/// Writes the id of the node that has the fault.
+fn with_id(alloc: Global, root: &PlanNode<'_>, fault: NodeFault) -> Result<BuildFault, AllocError>
+    ensures fault { IfOk result (λ named. named.fault ≡ fault.fault) }
+    ensures node { IfOk result (λ named.
+        named.node ≡ option_and_then (id_at root.now) fault.node) }
+{
+    let node = match fault.node {
+        Some(number) => write_id(alloc, root, number)?,
+        None => None,
+    };
+    Ok(BuildFault {
+        fault: fault.fault,
+        node,
+    })
+}
 
 /// Builds the plan with this root, which copies all texts.
 ///
@@ -16,13 +38,17 @@ use tk_plan_json_members::PlanFault;
 /// [`crate::read_plan`], in their order.
 ///
 /// # Errors
-/// `Field` with the place in that JSON, where a dynamic node has what only a static one may have, a
-/// success has a message, or the path of a file is empty; else the faults of the nodes in preorder,
-/// then `TooManyEvents`. Where a request for memory is refused, the fault is `Memory`.
-pub fn build_plan(alloc: Global, root: &PlanNode<'_>) -> Result<Plan, PlanFault>
-    ensures { Answered (PlanOf (plan_data root.now)) result }
+/// The first fault of the nodes in preorder, with the id of the node that has it; else
+/// `TooManyEvents`. `Field` has the place in that JSON, where a dynamic node has what only a static
+/// one may have, a success has a message, or the path of a file is empty. Where a request for memory
+/// is refused, the fault is `Memory`.
+pub fn build_plan(alloc: Global, root: &PlanNode<'_>) -> Result<Plan, BuildFault>
+    ensures plan { Answered (PlanOf (plan_data root.now)) (without_node result) }
+    ensures node { IfErr result (λ e. HasNode (faulty_id root.now) e.fault e.node) }
 {
     let value = plan_value(alloc, root)?;
-    let read = nodes_of(alloc, value)?;
-    Ok(plan_from(alloc, read)?)
+    match nodes_of(alloc, value) {
+        Ok(read) => Ok(plan_from(alloc, read)?),
+        Err(fault) => Err(with_id(alloc, root, fault)?),
+    }
 }

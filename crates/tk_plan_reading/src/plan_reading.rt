@@ -1,10 +1,11 @@
 //! Reading a plan.
-ghost use Rattle.std.specs.Prelude.{◌≡◌, ◌≤◌, ◌<◌, ◌++◌, ◌∷◌, [], Some, codes, length, IfOk, OnOk, option_map};
+ghost use Rattle.std.specs.Prelude.{◌≡◌, ◌≤◌, ◌<◌, ◌++◌, ◌∷◌, [], Some, codes, length, IfErr, IfOk, OnOk, option_map};
 ghost use Rattle.serde_json.specs.Find.{get};
 ghost use Rattle.serde_json.specs.View.{view};
 ghost use Rattle.tk_plan_json_members.specs.Answers.{Reads};
 ghost use Rattle.tk_plan_json_members.specs.Checks.{member_at, member_wrong, must};
 ghost use Rattle.tk_plan_reading.specs.PlanOf.{PlanOf, one_or_two, is_two, takes_files_in, anything, top};
+ghost use Rattle.tk_plan_reading.specs.FaultyNodes.{HasNode, faulty_node};
 ghost use Rattle.tk_plan_reading.specs.PlanAnswers.{plan_in, Answered};
 ghost use Rattle.tk_plan_json.specs.Progress.{IsNoted};
 ghost use Rattle.tk_plan_reading.specs.steps.ReadNodes.{IsReadFrom};
@@ -20,6 +21,7 @@ use std::alloc::{AllocError, Global};
 use std::sync::Arc;
 use tk_ids::{Descriptor, Table, Text};
 use tk_plan::{Plan, count_events};
+use tk_plan_json::NodeFault;
 use tk_plan_json::node_reading::read_nodes;
 use tk_plan_json::read_nodes::ReadNodes;
 use tk_plan_json_members::PlanFault;
@@ -110,25 +112,26 @@ pub(crate) fn plan_from(alloc: Global, read: ReadNodes) -> Result<Plan, AllocErr
 }
 
 /// Reads the nodes of the plan that a value stands for.
-pub(crate) fn nodes_of(alloc: Global, value: Value) -> Result<ReadNodes, PlanFault>
-    ensures { IsReadFrom (PlanOf (view value)) result }
+pub(crate) fn nodes_of(alloc: Global, value: Value) -> Result<ReadNodes, NodeFault>
+    ensures plan { IsReadFrom (PlanOf (view value)) result }
+    ensures node { IfErr result (λ e. HasNode (faulty_node (view value)) e.fault e.node) }
 {
     let (takes_files, root) = top_members(alloc, value)?;
     let read = read_nodes(alloc, takes_files, root)?;
     match count_events(read.nodes.as_slice()) {
-        None => Err(PlanFault::TooManyEvents),
+        None => Err(NodeFault::from(PlanFault::TooManyEvents)),
         Some(_) => Ok(read),
     }
 }
 
 /// Reads the nodes of a plan from its text.
-fn read_text(alloc: Global, bytes: &[u8]) -> Result<ReadNodes, PlanFault>
+fn read_text(alloc: Global, bytes: &[u8]) -> Result<ReadNodes, NodeFault>
     ensures { IsReadFrom (plan_in bytes.now) result }
 {
     match Value::from_slice(alloc, bytes) {
         Ok(value) => nodes_of(alloc, value),
-        Err(error) if error.is_memory() => Err(PlanFault::Memory),
-        Err(_) => Err(PlanFault::Json),
+        Err(error) if error.is_memory() => Err(NodeFault::from(PlanFault::Memory)),
+        Err(_) => Err(NodeFault::from(PlanFault::Json)),
     }
 }
 

@@ -15,13 +15,14 @@ use Rattle.tk_plan.specs.Keys.{lock_keys}
 use Rattle.tk_plan.specs.Planned.{is_lawful_node}
 use Rattle.tk_plan.specs.Trees.{Tree, flat, contents}
 use Rattle.tk_plan_json.specs.declared.limits.TheConstants.{MAX_LEVELS}
-use Rattle.tk_plan_json.specs.Verdicts.{is_kind, same_segment, verdict, when}
+use Rattle.tk_plan_json.specs.Verdicts.{is_kind, same_segment, located, when}
 use Rattle.tk_plan_json.specs.steps.Fields.{has_no_below}
 use Rattle.tk_plan_json.specs.NodeInputs.{NodeInput, segment_of, id_of, node_of, below, grown}
 use Rattle.tk_plan_json.specs.NodeInputs.{node_inputs}
 use Rattle.tk_plan_json_members.specs.declared.faults.PlanFault.{PlanFault}
 use Rattle.tk_plan_json_members.specs.declared.faults.PlanFault.TheVariants.{Table}
 use Rattle.tk_plan_json_members.specs.declared.faults.PlanFault.TheVariants.{TooManyResources}
+use Rattle.tk_plan_json.specs.declared.node_faults.NodeFault.{NodeFault}
 use Rattle.tk_plan_json.specs.declared.read_nodes.ReadNodes.{ReadNodes}
 use Rattle.tk_plan_json.specs.declared.read_nodes.Checked.{Checked}
 use Rattle.tk_plan_json.specs.declared.read_nodes.Named.{Named}
@@ -141,8 +142,8 @@ abbrev pub levels_below : ℕ → ℕ
 levels_below level = MAX_LEVELS - level
 
 -- the first fault of a node and of what is below it, at most this many levels, after those read
-abbrev pub verdict_of_node : ReadNodes → ℕ → NodeInput → Option PlanFault
-verdict_of_node r levels s = verdict (contents r.nodes.items) (node_inputs levels s)
+abbrev pub located_of_node : ReadNodes → ℕ → NodeInput → Option NodeFault
+located_of_node r levels s = located (contents r.nodes.items) (node_inputs levels s)
 
 -- a node and all below it were read
 abbrev pub AddsTree : ReadNodes → ReadNodes → ℕ → NodeInput → Type 0
@@ -160,8 +161,8 @@ abbrev pub trees_of : NodeGroup → List Tree
 trees_of g = map (grown g.levels) g.nodes
 
 -- the first fault of some nodes and of all below them, after those read
-abbrev pub verdict_of_group : ReadNodes → NodeGroup → Option PlanFault
-verdict_of_group r g = verdict (contents r.nodes.items) (flat_map (node_inputs g.levels) g.nodes)
+abbrev pub located_of_group : ReadNodes → NodeGroup → Option NodeFault
+located_of_group r g = located (contents r.nodes.items) (flat_map (node_inputs g.levels) g.nodes)
 
 -- these nodes and all below them were read
 abbrev pub AddsGroup : ReadNodes → ReadNodes → NodeGroup → Type 0

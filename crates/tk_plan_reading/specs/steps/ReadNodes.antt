@@ -7,6 +7,7 @@ use Rattle.tk_plan_json.specs.Progress.{IsNoted}
 use Rattle.tk_plan_json_members.specs.Refusals.{IsFault}
 use Rattle.tk_plan_reading.specs.steps.Tables.{Follow}
 use Rattle.tk_plan_json_members.specs.declared.faults.PlanFault.{PlanFault}
+use Rattle.tk_plan_json.specs.declared.node_faults.NodeFault.{NodeFault}
 use Rattle.tk_plan_json.specs.declared.read_nodes.ReadNodes.{ReadNodes}
 
 -- what was read has the nodes of the tree and the descriptors of the static ones, which are a plan
@@ -18,6 +19,6 @@ pub record HasTree (t : Tree) (r : ReadNodes) : Type 0 where
   pub planned : IsPlanned r.nodes.items r.descriptors.items
 
 -- the nodes of the plan were read, or the answer is the fault, unless memory ran out
-abbrev pub IsReadFrom : Result Tree PlanFault → Result ReadNodes PlanFault → Type 0
+abbrev pub IsReadFrom : Result Tree PlanFault → Result ReadNodes NodeFault → Type 0
 IsReadFrom plan (Ok r) = (t : Tree) × (plan ≡ Ok t) × HasTree t r
-IsReadFrom plan (Err e) = IsFault (λ f. plan ≡ Err f) e
+IsReadFrom plan (Err e) = IsFault (λ f. plan ≡ Err f) e.fault

@@ -7,7 +7,7 @@ use Rattle.tk_plan.specs.Trees.{contents}
 use Rattle.tk_plan_json.specs.Verdicts.{is_kind}
 use Rattle.tk_plan_json.specs.Progress.{IsNoted}
 use Rattle.tk_plan_json.specs.declared.read_nodes.ReadNodes.{ReadNodes}
-use Rattle.tk_plan_json.proofs.CheckSteps.{faults_also}
+use Rattle.tk_plan_json.proofs.NodeFaults.{faults_at_also}
 use Rattle.tk_plan_json.proofs.node_reading.read_nodes.Goals as goal
 
 -- where no node was read
@@ -28,7 +28,7 @@ none_noted r nodes descriptors dynamics keys =
 pub returns-in_err-read_root : goal.returns-in_err-read_root
 returns-in_err-read_root c =
     let p = err_from_is_err_and c.from_residual.result c.from_residual.ensures.1 in
-    rw (p.1, p.2) (faults_also _ _ _ (λ f w. w) c.in_err-read_root.ensures)
+    rw (p.1, p.2) (faults_at_also _ _ _ (λ f w. w) c.in_err-read_root.ensures)
 
 pub read_root-requires : goal.read_root-requires
 read_root-requires c =
