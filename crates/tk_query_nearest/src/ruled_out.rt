@@ -126,7 +126,7 @@ impl RuledOut {
         }
     }
 
-    /// How many parts can't hold of an event of this one's kind and status, with a message as it has.
+    /// How many parts can't hold of this event, whatever its texts are.
     pub(crate) fn by(&self, event: &EntryView) -> usize
         ensures { (c : Cond) → self.now ≡ ruled_out_of c →
             result ≤ ruled_out c event.now.kind

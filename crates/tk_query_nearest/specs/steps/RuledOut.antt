@@ -1,6 +1,6 @@
--- How many parts of a condition can't hold of an event of a record, whatever its texts are: what its
--- kind rules out and, where it finished, its status and whether it has a message. A status stands
--- as its code, 0 where the event is no finish.
+-- How many parts of a condition can't hold of an event of a record, whatever its texts are: what
+-- its kind rules out and, where it finished, its status and whether it has a message. A status
+-- stands as its code, 0 where the event is no finish.
 use Rattle.std.specs.Prelude.{ℕ, ◌+◌, ◌*◌, min, Bool, true, false, not, ◌&&◌, ◌==◌, if◌then◌else◌}
 use Rattle.std.specs.Prelude.{Some, length}
 use Rattle.tk_events.specs.declared.kinds.Kind.{Kind}
