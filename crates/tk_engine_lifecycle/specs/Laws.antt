@@ -6,15 +6,8 @@ use Rattle.tk_events.specs.declared.kinds.Kind.TheVariants.{Dynamic, Started, Sk
 use Rattle.tk_events.specs.declared.payloads.Payload.TheVariants.{Described}
 use Rattle.tk_query_lifecycle.specs.KeepsLifecycle.{is_step}
 use Rattle.tk_engine_lifecycle.specs.Units.{Frame, KeepsAlone, KeepsAround}
-use Rattle.tk_engine_lifecycle.specs.UnderWay.{
-  IsOneOf,
-  IsUnderWay,
-  MayBegin,
-  MayBeRegistered,
-  UnitState,
-  emits,
-  steps_so_far,
-}
+use Rattle.tk_engine_lifecycle.specs.UnderWay.{IsOneOf, IsUnderWay, MayBegin, MayBeRegistered}
+use Rattle.tk_engine_lifecycle.specs.UnderWay.{UnitState, emits, steps_so_far}
 
 -- a unit that has emitted nothing is under way
 abbrev pub Begins : Type 0

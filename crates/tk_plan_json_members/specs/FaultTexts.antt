@@ -2,17 +2,11 @@
 use Rattle.std.specs.Prelude.{ℕ, List, ◌++◌, codes}
 use Rattle.tk_events.specs.Fields.{field_text}
 use Rattle.tk_plan_json_members.specs.declared.faults.PlanFault.{PlanFault}
-use Rattle.tk_plan_json_members.specs.declared.faults.PlanFault.TheVariants.{
-  Json,
-  Field,
-  Id,
-  Table,
-  TooManyResources,
-  EntryKeyTwice,
-  TooManyEvents,
-  Deep,
-  Memory,
-}
+use Rattle.tk_plan_json_members.specs.declared.faults.PlanFault.TheVariants.{Json, Field, Id, Table}
+use Rattle.tk_plan_json_members.specs.declared.faults.PlanFault.TheVariants.{TooManyResources}
+use Rattle.tk_plan_json_members.specs.declared.faults.PlanFault.TheVariants.{EntryKeyTwice}
+use Rattle.tk_plan_json_members.specs.declared.faults.PlanFault.TheVariants.{TooManyEvents, Deep}
+use Rattle.tk_plan_json_members.specs.declared.faults.PlanFault.TheVariants.{Memory}
 
 abbrev pub plan_fault_text : PlanFault → List ℕ
 plan_fault_text Json = codes "plan is not JSON"

@@ -1,16 +1,10 @@
 -- What is said of a fault, unless it is `Memory`.
 use Rattle.tk_plan_json_members.specs.declared.faults.PlanFault.{PlanFault}
-use Rattle.tk_plan_json_members.specs.declared.faults.PlanFault.TheVariants.{
-  Json,
-  Field,
-  Id,
-  Table,
-  TooManyResources,
-  EntryKeyTwice,
-  TooManyEvents,
-  Deep,
-  Memory,
-}
+use Rattle.tk_plan_json_members.specs.declared.faults.PlanFault.TheVariants.{Json, Field, Id, Table}
+use Rattle.tk_plan_json_members.specs.declared.faults.PlanFault.TheVariants.{TooManyResources}
+use Rattle.tk_plan_json_members.specs.declared.faults.PlanFault.TheVariants.{EntryKeyTwice}
+use Rattle.tk_plan_json_members.specs.declared.faults.PlanFault.TheVariants.{TooManyEvents, Deep}
+use Rattle.tk_plan_json_members.specs.declared.faults.PlanFault.TheVariants.{Memory}
 
 -- P holds of the fault, unless memory ran out
 abbrev pub IsFault : (PlanFault → Type 0) → PlanFault → Type 0

@@ -1,19 +1,6 @@
 -- What a run begins with.
-use Rattle.std.specs.Prelude.{
-  ◌≡◌,
-  ℕ,
-  ◌<◌,
-  ◌≤◌,
-  Bool,
-  true,
-  false,
-  List,
-  length,
-  Some,
-  slice_get,
-  vec_len,
-  vec_capacity,
-}
+use Rattle.std.specs.Prelude.{◌≡◌, ℕ, ◌<◌, ◌≤◌, Bool, true, false, List, length, Some, slice_get}
+use Rattle.std.specs.Prelude.{vec_len, vec_capacity}
 use Rattle.tk_ids.specs.declared.descriptors.Descriptor.{Descriptor}
 use Rattle.tk_base.specs.declared.limits.TheConstants.{MAX_WORKERS}
 use Rattle.tk_events.specs.declared.events.Event.{Event}

@@ -1,18 +1,6 @@
 -- Which keys a unit's registrations have.
-use Rattle.std.specs.Prelude.{
-  ℕ,
-  ◌+◌,
-  ◌==◌,
-  nat_lt,
-  nat_eq,
-  if◌then◌else◌,
-  List,
-  [],
-  ◌∷◌,
-  Option,
-  Some,
-  None,
-}
+use Rattle.std.specs.Prelude.{ℕ, ◌+◌, ◌==◌, nat_lt, nat_eq, if◌then◌else◌, List, [], ◌∷◌, Option}
+use Rattle.std.specs.Prelude.{Some, None}
 use Rattle.std.specs.Option.{option_or}
 use Rattle.indexmap.specs.IndexMap.{get}
 use Rattle.tk_engine_scripted.specs.declared.keys.Keys.{Keys}
