@@ -34,7 +34,8 @@ fn show_statistics(alloc: Global, record: &Record, want: &str) -> Result<bool, A
 
 #[test]
 fn statistics_are_shown_as_the_lines_of_ask_stats(rt: HostRuntime) {
-    let want = "skipped 1\nstarted 2\nfinished 2\naborted 0\nsucceeded 1\nfailed 1\nreporting 0\ndynamic 0\nfiles 0\n";
+    let want =
+        "skipped 1\nstarted 2\nfinished 2\naborted 0\nsucceeded 1\nfailed 1\nreporting 0\ndynamic 0\nfiles 0\n";
     let Some(record) = record_of(rt.alloc(), two_tests()) else {
         assert!(rt; false);
         return;
@@ -69,8 +70,28 @@ fn events_are_shown_as_the_lines_of_ask_list(rt: HostRuntime) {
         assert!(rt; false);
         return;
     };
-    assert!(rt; matches!(show_events(rt.alloc(), &record, Selection::All, want), Ok(true)));
+    assert!(rt;
+        matches!(
+            show_events(rt.alloc(), &record, Selection::All, want),
+            Ok(true)
+        )
+    );
     let failed = "5 E|3|0|5|finish|fail|b\\\\m\n";
-    assert!(rt; matches!(show_events(rt.alloc(), &record, Selection::Failed, failed), Ok(true)));
-    assert!(rt; matches!(show_events(rt.alloc(), &record, Selection::Aborted, "4 E|3|0|4|finish|abort\n"), Ok(true)));
+    assert!(rt;
+        matches!(
+            show_events(rt.alloc(), &record, Selection::Failed, failed),
+            Ok(true)
+        )
+    );
+    assert!(rt;
+        matches!(
+            show_events(
+                rt.alloc(),
+                &record,
+                Selection::Aborted,
+                "4 E|3|0|4|finish|abort\n"
+            ),
+            Ok(true)
+        )
+    );
 }
