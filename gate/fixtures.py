@@ -18,7 +18,6 @@ from dataclasses import dataclass
 from typing import Callable, Iterable, List, Sequence, Union
 
 TOP = os.path.dirname(os.path.dirname(os.path.realpath(__file__)))
-"""The folder of the repository."""
 
 PROGRAM = os.environ.get("TESTKIT_PROGRAM") or f"{TOP}/crates/testkit/out/testkit"
 """The proved program, or the one that `gate/run --program` names."""
@@ -27,7 +26,6 @@ TEST_CRATES = ["test_runs", "test_questions", "test_records", "test_sessions", "
 """The crates with tests; those that take longest come first."""
 
 SECONDS = 300
-"""How many seconds a command may take: far more than any needs."""
 
 NO_PROGRAM = "no proved program"
 """The reason with which a test is skipped that needs the program."""
@@ -90,7 +88,6 @@ def folder(test: unittest.TestCase) -> str:
 
 
 def write(path: str, text: str, mode: int = 0o644) -> None:
-    """Writes a file, and makes the folders above it."""
     os.makedirs(os.path.dirname(path), exist_ok=True)
     with open(path, "w", encoding="utf-8") as file:
         file.write(text)
@@ -125,7 +122,6 @@ def run(words: Iterable[Union[str, bytes]], input: bytes = b"", seconds: float =
 
 
 def ask(words: Iterable[Union[str, bytes]], input: bytes = b"", **how) -> Ran:
-    """Runs the proved program."""
     return run([PROGRAM, *words], input, **how)
 
 

@@ -43,7 +43,6 @@ class Runs:
     least: str = "a/test_a 1\n"
     words: Sequence[str] = ()
     says: str = ""
-    """A part of what it writes."""
     others: Dict[str, str] = field(default_factory=dict)
     """Other modules by their names, each with its text after `HEAD`."""
 
@@ -86,7 +85,6 @@ RUNS = [
 
 
 def status_of(counted: str) -> int:
-    """The status that belongs to the last line."""
     return 70 if "passed" not in counted else 0 if counted.endswith(" 0 failed") else 1
 
 
@@ -132,7 +130,6 @@ TRIED = 'printf "tests: 2\\ntest a::b ... ok\\ntest c ... ok\\nrun=ended proved=
 
 
 def told(*lines: str, status: int = 1) -> str:
-    """What a try says, and its status."""
     return "; ".join(f"echo '{line}'" for line in lines) + f"; exit {status}"
 
 
@@ -155,7 +152,6 @@ COMMIT = "-c user.name=a -c user.email=a -c commit.gpgSign=false commit -q -m ne
 
 
 def edit_sum(at: str) -> None:
-    """Edits the sum of the sources in bin/."""
     with open(f"{at}/{PROVED_WITH}", encoding="utf-8") as file:
         text = file.read()
     write(f"{at}/{PROVED_WITH}", re.sub("(?m)^(# sources .*).$", r"\1-", text))

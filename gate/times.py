@@ -15,7 +15,6 @@ from typing import Dict, List, NamedTuple, Optional, Tuple
 
 KINDS = ("proof", "tests", "wrong bodies", "runs")
 SECONDS = 1.0
-"""How often processes are looked at."""
 
 TICKS = os.sysconf("SC_CLK_TCK")
 RAN = re.compile(r"/rt-run-[^/]+/bin/(\w+?)(?:_tests)?$")
@@ -31,7 +30,6 @@ class Process(NamedTuple):
 
 
 def processes() -> Dict[int, Process]:
-    """All processes by their numbers."""
     found = {}
     for name in filter(str.isdecimal, os.listdir("/proc")):
         try:
@@ -108,7 +106,6 @@ class Watch:
         return dict(sorted(table.items(), key=lambda it: -sum(it[1].values())))
 
     def lines(self) -> List[str]:
-        """A line for each crate, and one for all."""
         table = self.by_crate()
         total = {kind: sum(row[kind] for row in table.values()) for kind in KINDS}
         rows = [(f"{sum(row.values()):.0f}", *(f"{row[kind]:.0f}" for kind in KINDS), name) for name, row in [*table.items(), ("all crates", total)]]

@@ -20,7 +20,6 @@ Bytes = Union[bytes, Callable[[], bytes]]
 """Bytes, or a function that makes them when they are needed (for large ones)."""
 
 USAGE = os.path.join(os.path.dirname(os.path.realpath(__file__)), "../../crates/testkit/usage.txt")
-"""The page of usage."""
 
 TIME_LIMIT = 600
 """How many seconds a run may take: far more than any needs, so that a slow machine fails no case."""
@@ -39,7 +38,6 @@ CUT = 4_096
 
 
 def broken_pipe() -> int:
-    """The writing end of a pipe that has no reading end."""
     reading, writing = os.pipe()
     os.close(reading)
     return writing
@@ -50,8 +48,6 @@ BROKEN_PIPE = broken_pipe()
 
 
 class Input(Enum):
-    """What standard input is."""
-
     BYTES = "a pipe with the bytes of the case"
     FILE = "a file with the bytes of the case"
     PIECES = "a pipe into which the bytes of the case are written one by one"
@@ -61,8 +57,6 @@ class Input(Enum):
 
 
 class Output(Enum):
-    """What standard output, or standard error, is."""
-
     KEPT = "what is written is compared"
     CLOSED = "closed"
     FULL = "a full device"
@@ -122,7 +116,6 @@ class Check:
     wanted: object
 
     def run(self, program: str) -> Optional[str]:
-        """What differs, or None where the two are equal."""
         return None if self.got == self.wanted else f"{self.got!r}, wanted {self.wanted!r}"
 
 
@@ -142,7 +135,6 @@ class ThreadCount:
         return self.case.name
 
     def run(self, program: str) -> Optional[str]:
-        """What differs, or None where the case passes and a run is seen with `threads` threads."""
         watcher = Watcher()
         for _ in range(MOST_RUNS):
             fault = self.case.run(program, watcher)
@@ -154,8 +146,6 @@ class ThreadCount:
 
 
 class Watcher:
-    """Looks how many threads a process has, until it ends."""
-
     def __init__(self):
         self.most = 0
 
@@ -193,7 +183,6 @@ def start(case: Case, program: str, watcher: Optional[Watcher] = None) -> Ended:
 
 
 def end(case: Case, process: subprocess.Popen) -> Ended:
-    """Gives a process its input, and waits for its end."""
     first = b""
     if case.standard_output == Output.CUT_PIPE:
         with io.BufferedReader(process.stdout) as pipe:

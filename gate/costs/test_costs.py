@@ -40,8 +40,6 @@ MOST_SECONDS = 300
 
 @dataclass(frozen=True)
 class Costs:
-    """What a run cost."""
-
     seconds: float
     memory: int
     """KiB, rounded up."""
@@ -52,15 +50,12 @@ class Costs:
     """Seconds by the clock; a limit has them where a run waits."""
 
     def above(self, limit: "Costs") -> List[str]:
-        """The costs that are above a limit."""
         pairs = [(it.name, getattr(self, it.name), getattr(limit, it.name)) for it in fields(self)]
         return [f"{name} {cost}, and may be {most}" for name, cost, most in pairs if cost > most]
 
 
 @dataclass(frozen=True)
 class Row:
-    """A command line and its input, what it answers, and what it may cost."""
-
     name: str
     words: Sequence[str]
     input: Callable[[], bytes]
@@ -95,7 +90,6 @@ def repeated(front: str, middle: str, back: str = "") -> Callable[[], bytes]:
 
 
 def node(members: str, value: str = "e", kind: str = "container") -> str:
-    """A node of a plan."""
     return f'{{"type":"{kind}","segment":["engine","{value}"],"name":"n"{members}}}'
 
 
@@ -104,7 +98,6 @@ def plan(root: str) -> bytes:
 
 
 def plan_of_nodes(count: int, members: str, below: str = "children") -> bytes:
-    """A plan with this number of tests below its root."""
     return plan(node(f',"{below}":[' + ",".join(node(members, str(number), "test") for number in range(count)) + "]"))
 
 
@@ -125,7 +118,6 @@ def plan_of_entries(last: str = "", entry: str = '[["key","value %d"]]', count: 
 
 
 def plan_of_a_text(value: str) -> bytes:
-    """A plan of one node with one entry of this value."""
     return plan(node(f',"entries":[[["k","{value}"]]]'))
 
 
@@ -222,18 +214,15 @@ def tests_of_an_engine() -> bytes:
 
 
 def tests_side_by_side() -> bytes:
-    """Tests that all start before the first finishes, after the engine."""
     return record_of_tests("n", BEGIN, END, events("start"), events("finish|ok"))
 
 
 def roots_side_by_side() -> bytes:
-    """Roots that all start before the first finishes."""
     nodes = "".join(f"N|T|[t:{number}]|n\n" for number in range(65_000))
     return f"testkit-record|2\n{nodes}{events('start', keys=range(65_000))}{events('finish|ok', keys=range(65_000))}".encode()
 
 
 def registered_side_by_side() -> bytes:
-    """Registered tests that all start before the first finishes, within the engine."""
     keys = range(65_536, 65_536 + 65_000)
     made = "".join(f"E|1|{key}|0|dynamic|T|[engine:e]/[t:{key}]|n\n" for key in keys)
     return f"{RECORD.replace('|T|', '|C|')}{BEGIN}{made}{events('start', keys=keys)}{events('finish|ok', keys=keys)}{END}".encode()
@@ -488,7 +477,6 @@ class Pair:
 
 
 def seconds_of(command: Sequence[str], path: str) -> float:
-    """The seconds of processor time of an answer."""
     with open(path, "rb") as source:
         ran = subprocess.Popen(command, stdin=source, stdout=subprocess.DEVNULL, stderr=subprocess.DEVNULL)
         _, _, usage = os.wait4(ran.pid, 0)
@@ -535,7 +523,6 @@ BESIDE = [
 
 
 def faults_of(row: Row, costs: Costs, status: int, wrote: str) -> List[str]:
-    """What is wrong with a run of a row."""
     answered = status == row.status and wrote.startswith(row.begins)
     little = [f"memory {costs.memory}, and has to be {row.least_memory}"] if costs.memory < row.least_memory else []
     return costs.above(row.limit) + little + ([] if answered else [f"status {status}, and it writes {wrote!r}"])
@@ -556,8 +543,6 @@ def faults_of_runs(row: Row, run: Callable[[], Tuple[Costs, int, str]]) -> List[
 
 
 class WithCounts(WithLibrary):
-    """Tests for which `count.c` is compiled."""
-
     SOURCE = f"{TOP}/gate/costs/count.c"
 
     def check(self, row: Row, program: str) -> None:

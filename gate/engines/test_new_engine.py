@@ -73,7 +73,6 @@ REFUSES = [
 
 
 def files(at: str) -> Dict[str, str]:
-    """The files of a tree and their texts."""
     paths = [f"{place}/{name}" for place, _, names in os.walk(at) for name in names]
     return {os.path.relpath(path, at): read(path) for path in paths}
 
@@ -121,7 +120,6 @@ class NewEngine(unittest.TestCase):
         self.check_refused(Refuses(["desk"], "evens.rt has no EvenNumbers", 70), {f"{ENGINE}/evens.rt": "//! Other tests.\n"})
 
     def tree(self) -> str:
-        """Makes a small tree with the example."""
         at = folder(self)
         for path in (ENGINE, TESTS, "tools"):
             shutil.copytree(f"{TOP}/{path}", f"{at}/{path}")

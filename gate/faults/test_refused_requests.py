@@ -29,7 +29,6 @@ from tables.locks import BESIDE, held
 from tables.texts import DEMO_PLAN, SMALL_REPLAY, TWO_TESTS
 
 TIME_LIMIT = 60
-"""How many seconds a run may take: far more than any needs."""
 
 KEPT_BY_RUN = 32
 """How many blocks of memory the record of the demo plan's run has, with any number of workers.
@@ -42,7 +41,6 @@ KEPT_LONG = KEPT_BY_RUN + 11
 """The same of `LONG_PLAN`, whose eight names, lock, reason and message have blocks of their own."""
 
 MOST_REQUESTS = 5_000
-"""How many requests of a kind a run makes at most."""
 
 ROUNDS = 4
 """How many rounds a sweep has at most: a unit makes few requests, and the schedule may put others before them each time."""
@@ -217,7 +215,6 @@ LONG_RECORD = re.sub(r"\b(e|one|two|boom|off)$", rf"\1{LONGER}", TWO_TESTS, flag
 """Three names, a message and a reason, each with memory of its own."""
 
 LONG_PLAN = re.sub(r'"(?:name|skip|message|key)":"\w+|"segment":\["\w+","\w+', rf"\g<0>{LONGER}", DEMO_PLAN)
-"""The demo plan with such texts."""
 
 LONG_LOCKS = held(f"3 W db{LONGER}, 4 R db{LONGER}", BESIDE)
 """Two tests that overlap and hold a lock, whose name has memory of its own."""
@@ -232,7 +229,6 @@ SKIP_REPLAY = f"testkit-replay|2\nW|1\nN|T|[engine:e]|e\nE|1|0|7|skip|off{LONGER
 COMMANDS = rows(__file__, globals())
 
 SIXTEEN_LOCKS = DEMO_PLAN.replace('[{"key":"db"}]', "[" + ",".join(f'{{"key":"{key}{LONGER}"}}' for key in range(16)) + "]")
-"""The demo plan with a lock too many."""
 
 FAULTS = [
     ("ask", TWO_TESTS),
@@ -271,7 +267,6 @@ def sweeps_of_program() -> List[Sweep]:
 
 
 def names_of(program: str) -> List[str]:
-    """The tests of a built test crate."""
     listed = subprocess.run([program, "--list"], stdout=subprocess.PIPE, check=True, text=True).stdout
     return re.findall(r"[\w:]+::\w+", listed)
 
@@ -292,8 +287,6 @@ def sweeps_of_tests() -> List[Sweep]:
 
 
 class WithRefusals(WithLibrary):
-    """Tests for which `refuse.c` is compiled."""
-
     SOURCE = f"{HERE}/refuse.c"
 
     def check(self, sweep: Sweep) -> None:

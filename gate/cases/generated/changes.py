@@ -78,7 +78,6 @@ PARTS = "all( any( not( test started failed failed( id( name( segment( message( 
 
 
 def loose_word(numbers: Numbers) -> str:
-    """A word made of parts of conditions."""
     return "".join(numbers.one_of(PARTS) for _ in range(1 + numbers.below(8)))
 
 
@@ -92,7 +91,6 @@ TAIL_FIELDS = ["start", "finish", "skip", "report", "dynamic", "ok", "fail", "ab
 
 
 def loose_line(numbers: Numbers) -> Start:
-    """A record with one line made of parts of lines."""
     fields = [numbers.one_of(choice[: 1 + numbers.below(len(choice))]) for choice in FIELDS]
     fields += [numbers.one_of(TAIL_FIELDS[: 5 + 11 * numbers.below(2)])] + numbers.some_of(TAIL_FIELDS, 3)
     text = HEADER + "".join(line + "\n" for line in NODES) + "|".join(fields) + "\n"

@@ -58,8 +58,6 @@ def form_of(line: str) -> str:
 
 
 def matches(mode: str, seed: int, count: int, most: int, words_for: Words, wanted: Sequence[str]) -> Cases:
-    """Matches of records of up to `most` events."""
-
 
     def asked(numbers: Numbers) -> Tuple[List[str], bytes]:
         text = short_record(numbers) if numbers.below(2) else record_text(numbers, numbers.below(most))
@@ -108,7 +106,6 @@ SENTENCES = [
 
 
 def broken(numbers: Numbers) -> Tuple[List[str], bytes]:
-    """A record that mostly breaks the lifecycle."""
     lines = loose_lines(numbers) if numbers.below(3) == 0 else lifecycles.spoiled(numbers, lifecycles.kept_lines(numbers))
     return ["ask", "explain", "lifecycle"], lifecycles.text_of(lines)
 
@@ -120,7 +117,6 @@ def of_lifecycles() -> Cases:
 
 
 def of_exclusives() -> Cases:
-    """Executions of writers and readers, of which some overlap."""
     cases = series("generated explanation, exclusive", Numbers(62), 300, lambda numbers: exclusives.asked(numbers, "explain", "exclusive"))
     shown = ["yes", "no pair", "overlap\n", "the first as a writer", "the second as a writer", "both as writers"]
     met = [part for case in cases for part in shown if part in case.output.decode()]
@@ -128,7 +124,6 @@ def of_exclusives() -> Cases:
 
 
 def of_locks() -> Cases:
-    """Executions that hold locks, of which some overlap."""
     cases = series("generated explanation, locks", Numbers(68), 300, lambda numbers: locks.asked(numbers, "explain", "locks"))
     shown = ["yes", "no pair\n0 ", "no pair\n2 ", "overlap, over global\n", "overlap, over db\n", "overlap, over a\\pb\n"]
     met = [part for case in cases for part in shown if part in case.output.decode()]
@@ -136,7 +131,6 @@ def of_locks() -> Cases:
 
 
 def of_lists() -> Cases:
-    """Lists of events, and of executions."""
     numbers = Numbers(63)
     cases: Cases = []
     for number in range(150):

@@ -35,7 +35,6 @@ class Run:
         return next((it for it, text in self.ids.items() if text == above), None)
 
     def is_free(self, key: int) -> bool:
-        """Whether the key may start or be skipped now."""
         parent = self.parent(key)
         return key not in self.running + self.done and (parent is None or parent in self.running)
 

@@ -155,7 +155,6 @@ def runs_with_locks() -> Cases:
 
 
 def spoiled(numbers: Numbers) -> Tuple[List[str], bytes]:
-    """A plan with one value spoiled."""
     value = plan(numbers)
     spoil(numbers, value)
     return ["run", "--workers=2"], plan_text(numbers, value)

@@ -99,7 +99,6 @@ def one_of_two() -> Cases:
 
 
 def deep_conditions() -> Cases:
-    """Conditions of up to five brackets within one another, of 130 events."""
     numbers = Numbers(3)
     text = record_text(numbers, 130)
     record = read_record(text)
@@ -172,7 +171,6 @@ def lists() -> Cases:
 
 
 def executions() -> Cases:
-    """Lists of executions, of few events and of a hundred."""
     numbers = Numbers(8)
     texts = [short_record(numbers) for _ in range(300)]
     texts += [record_text(numbers, 100, nodes) for nodes in range(1, 7) for _ in range(4)]
@@ -183,7 +181,6 @@ def executions() -> Cases:
 
 
 def reports() -> Cases:
-    """Reports of records of few events and of a hundred."""
     numbers = Numbers(52)
     texts = [short_record(numbers) for _ in range(100)] + [record_text(numbers, 100) for _ in range(20)]
     return [modelled(f"generated report/{number}", ["ask", "report"], text) for number, text in enumerate(texts)]

@@ -14,10 +14,8 @@ Pairs = Tuple[Tuple[str, str], ...]
 
 KINDS = ("dynamic", "skip", "start", "finish", "report", "file")
 PLAIN_WORDS = ("test", "container", "engine", "started", "succeeded", "failed", "aborted")
-"""The atoms of one word."""
 
 TEXT_WORDS = ("id", "name", "skipped", "failed", "aborted", "message", "file")
-"""The atoms with a text."""
 
 GROUP_WORDS = ("all", "any", "not")
 OPENING_WORDS = TEXT_WORDS + ("kind", "entry", "segment") + GROUP_WORDS
@@ -34,12 +32,10 @@ class Deep(Exception):
 
 
 def write_text(text: str) -> str:
-    """A text inside of a condition."""
     return "".join(TEXT_ESCAPES.get(character, character) for character in text)
 
 
 def write_condition(condition: Condition) -> str:
-    """The text of a condition."""
     word = condition[0]
     if len(condition) == 1:
         return word
@@ -166,7 +162,6 @@ class Reader:
 
 
 def holds(condition: Condition, event: Event, descriptor: Descriptor) -> bool:
-    """Whether a condition holds of an event, whose key has this descriptor."""
     word = condition[0]
     argument = condition[1] if len(condition) > 1 else None
     if word == "all":

@@ -12,10 +12,8 @@ from model.texts import write_field, write_id
 NONE_LEFT = "    no event is left\n"
 
 MOST_NEAREST = 3
-"""How many of the events are shown that come nearest to a condition."""
 
 MOST_COUNTED = 20
-"""How many of the events are shown that a statistic counts."""
 
 NOBODY: Condition = ("any", ())
 """The readers where no condition names them."""
@@ -133,7 +131,6 @@ def explain_exactly(asked: Events, conditions: List[Condition]) -> Answer:
 
 
 def first_of(asked: Events, condition: Condition) -> int:
-    """The position of the first event of which a condition holds."""
     return [position for position in asked.positions if holds_at(asked.record, condition, position)][0]
 
 
@@ -191,14 +188,12 @@ def explain_exclusive(record: Record, writers: Condition, readers: Condition) ->
 
 
 def explain_list(record: Record, name: str, conditions: List[Condition]) -> Answer:
-    """Each line of the list, and its descriptor."""
     lines = list_events(record, name, conditions)[0].split("\n")[:-1]
     keys = [record.entries[int(line.split()[0])].event.key for line in lines]
     return "".join(f"{line}   {described(record, key)}\n" for line, key in zip(lines, keys)), True
 
 
 def explain_executions(asked: Events) -> Answer:
-    """Each line of the executions, and its id."""
     lines = executions(asked)[0].split("\n")[:-1]
     ids = [write_field(write_id(asked.record.descriptor(int(line.split()[0])).id)) for line in lines]
     return "".join(f"{line} {id_text}\n" for line, id_text in zip(lines, ids)), True

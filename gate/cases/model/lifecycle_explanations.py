@@ -20,7 +20,6 @@ DID = {
     "report": "published entries",
     "file": "published a file",
 }
-"""What an event did, by its kind."""
 
 
 def did(events: List[Event], position: int) -> str:
@@ -28,7 +27,6 @@ def did(events: List[Event], position: int) -> str:
 
 
 def positions_of(events: List[Event], key: int, kinds: Sequence[str] = MARKS) -> List[int]:
-    """The positions of the events of a key that are of one of these kinds."""
     return [position for position, event in enumerate(events) if event.key == key and event.kind in kinds]
 
 
@@ -103,7 +101,6 @@ def why_never_ran(events: List[Event], record: Record, key: int) -> Why:
 
 
 def explain_lifecycle(record: Record) -> Tuple[str, bool]:
-    """The answer of `ask explain lifecycle`."""
     answer, is_yes = lifecycle(record)
     if is_yes:
         return answer, True

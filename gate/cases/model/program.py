@@ -20,7 +20,6 @@ class Outcome:
 
 
 def outcome(words: List[bytes], data: bytes) -> Outcome:
-    """The outcome of the words after the program's name."""
     try:
         texts = [word.decode() for word in words]
         output, is_yes = perform(texts, data)
@@ -32,7 +31,6 @@ def outcome(words: List[bytes], data: bytes) -> Outcome:
 
 
 def fault(line: str, status: int = 2) -> Outcome:
-    """The outcome of a fault."""
     return Outcome(b"", f"testkit: {line}\n".encode(), status)
 
 

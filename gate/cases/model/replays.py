@@ -66,7 +66,6 @@ def read_step(text: str, workers: int) -> Optional[int]:
 
 
 def read_steps(line: str, workers: int) -> Optional[List[int]]:
-    """The steps of a line `S`."""
     fields = line.split("|")
     steps = [read_step(text, workers) for text in fields[1:]]
     return None if fields[0] != "S" or None in steps else steps

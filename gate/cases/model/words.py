@@ -137,6 +137,5 @@ def read_no_word(words: List[str], first: int, question: Question) -> Question:
 
 
 def ask(words: List[str], data: bytes) -> Answer:
-    """The answer of `ask` with these words to a record text, or `Refused`."""
     question = read_question(words)
     return question(read_record(data))
