@@ -103,14 +103,15 @@ class Ran:
     error: bytes
 
 
-def run(words: Iterable[Union[str, bytes]], input: bytes = b"", seconds: float = SECONDS, **how) -> Ran:
-    """Runs a command; `how` goes to `Popen`.
+def run(words: Iterable[Union[str, bytes]], input: bytes = b"", seconds: float = SECONDS, look: Callable = lambda _: None, **how) -> Ran:
+    """Runs a command; `how` goes to `Popen`, and the process to `look`.
 
     Where its time is over it is killed with all that it started, and the status is -9.
     """
     pipes = {"stdin": subprocess.PIPE, "stdout": subprocess.PIPE, "stderr": subprocess.PIPE, **how}
     with subprocess.Popen(list(words), start_new_session=True, **pipes) as started:
         try:
+            look(started)
             output, error = started.communicate(input if pipes["stdin"] == subprocess.PIPE else None, timeout=seconds)
         except subprocess.TimeoutExpired:
             os.killpg(started.pid, signal.SIGKILL)

@@ -100,11 +100,6 @@ def found_rows(record: Record, conditions: List[Condition], positions: Sequence[
     return "".join(condition_row(conditions, number) + event_row(record, position) for number, position in enumerate(positions))
 
 
-def number_of(answer: str) -> int:
-    """The K of `no K`."""
-    return int(answer.split()[1])
-
-
 def wrong_count(asked: Events, conditions: List[Condition]) -> str:
     """Both counts, and the first condition that doesn't hold in its place, or else the first that is left over."""
     record, positions = asked.record, asked.positions
@@ -125,26 +120,23 @@ def explain_exactly(asked: Events, conditions: List[Condition]) -> Answer:
         return answer + found_rows(asked.record, conditions, asked.positions), True
     if answer == "wrong-count\n":
         return answer + wrong_count(asked, conditions), False
-    number = number_of(answer)
+    number = int(answer.split()[1])
     lacking = lacking_row(asked.record, conditions[number], asked.positions[number])
     return answer + condition_row(conditions, number) + lacking, False
-
-
-def first_of(asked: Events, condition: Condition) -> int:
-    return [position for position in asked.positions if holds_at(asked.record, condition, position)][0]
 
 
 def explain_loosely(asked: Events, conditions: List[Condition]) -> Answer:
     answer, is_yes = match_loosely(asked, conditions)
     if is_yes:
-        return answer + found_rows(asked.record, conditions, [first_of(asked, condition) for condition in conditions]), True
-    number = number_of(answer)
+        first = [next(it for it in asked.positions if holds_at(asked.record, condition, it)) for condition in conditions]
+        return answer + found_rows(asked.record, conditions, first), True
+    number = int(answer.split()[1])
     return answer + condition_row(conditions, number) + nearest_rows(asked, conditions[number], 0), False
 
 
 def explain_in_order(asked: Events, conditions: List[Condition]) -> Answer:
     answer, is_yes = match_in_order(asked, conditions)
-    number = len(conditions) if is_yes else number_of(answer)
+    number = len(conditions) if is_yes else int(answer.split()[1])
     found = list(first_positions(asked, conditions[:number]))
     rows = answer + found_rows(asked.record, conditions, found)
     if is_yes:
