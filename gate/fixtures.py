@@ -5,6 +5,7 @@ A module `test_NAME.py` has classes of `unittest.TestCase`. `gate/run` runs it, 
 """
 
 import argparse
+import contextlib
 import functools
 import os
 import shutil
@@ -15,7 +16,7 @@ import tempfile
 import unittest
 from collections import Counter
 from dataclasses import dataclass
-from typing import Callable, Iterable, List, Sequence, Union
+from typing import Callable, Iterable, Iterator, List, Sequence, Union
 
 TOP = os.path.dirname(os.path.dirname(os.path.realpath(__file__)))
 
@@ -30,8 +31,16 @@ SECONDS = 300
 NO_PROGRAM = "no proved program"
 """The reason with which a test is skipped that needs the program."""
 
+NOT_QUICK = "left to the full gate"
+"""How the reason begins with which `gate/run --quick` skips a test that costs much and that others show as well."""
+
+IS_QUICK = "TESTKIT_QUICK" in os.environ
+SHARED = [int(it) for it in os.environ.get("TESTKIT_PROCESSORS", "").split()]
+"""Both ends of the pipe that `./check quick` has for the processors, with a byte for each that is free."""
+
 CHOSEN: List[str] = []
 """Parts of names, as `gate/run -k` has them: of a table the rows run whose name has one; all rows where there are none."""
+
 
 class WithProgram(unittest.TestCase):
     """Tests of the proved program, which are skipped where there is none."""
@@ -41,6 +50,24 @@ class WithProgram(unittest.TestCase):
         if not os.access(PROGRAM, os.X_OK):
             raise unittest.SkipTest(NO_PROGRAM)
         super().setUpClass()
+
+
+@contextlib.contextmanager
+def processor() -> Iterator[None]:
+    """Takes one of the processors that are shared, once it is free; where none are shared nothing is waited for."""
+    taken = SHARED and os.read(SHARED[0], 1)
+    try:
+        yield
+    finally:
+        if taken:
+            os.write(SHARED[1], taken)
+
+
+def share_processors() -> None:
+    """Shares the processors among the jobs of this process and of those that inherit the pipe."""
+    SHARED[:] = os.pipe()
+    os.write(SHARED[1], b"." * len(os.sched_getaffinity(0)))
+    os.environ["TESTKIT_PROCESSORS"] = " ".join(map(str, SHARED))
 
 
 def needs(command: str) -> Callable:
