@@ -23,8 +23,9 @@ TOP = os.path.dirname(os.path.dirname(os.path.realpath(__file__)))
 PROGRAM = os.environ.get("TESTKIT_PROGRAM") or f"{TOP}/crates/testkit/out/testkit"
 """The proved program, or the one that `gate/run --program` names."""
 
-TEST_CRATES = ["test_runs", "test_questions", "test_records", "test_sessions", "test_plans", "test_hierarchical", "test_example_engine"]
-"""The crates with tests; those that take longest come first."""
+TRIED = [["test_runs"], ["test_example_engine", "test_hierarchical"], ["test_records", "test_questions"], ["test_sessions", "test_plans"]]
+"""The crates of tests, those that are tried as one crate beside each other; what takes longest comes first."""
+TEST_CRATES = [crate for crates in TRIED for crate in crates]
 
 SECONDS = 300
 

@@ -10,7 +10,7 @@ import unittest
 from operator import itemgetter
 from typing import Dict, Sequence
 
-from fixtures import TOP, Ran, folder, parameterized, run, write
+from fixtures import TEST_CRATES, TOP, Ran, folder, parameterized, run, write
 from rows import rows
 
 HEAD = """
@@ -87,7 +87,7 @@ ANSWERS = 'read -r line && [ "$* $line" = "ask count all a record" ] && echo 5'
 COMMIT = "-c user.name=a -c user.email=a -c commit.gpgSign=false commit -q -m new"
 
 TRIED = told("tests: 2", "test a::b ... ok", "test c ... ok", "run=ended proved=no", status=0)
-LOOKS = f"grep -q slower src/a/b.rt && [ $(wc -l <src/a/b.rt) = 8 ] || exit 9; {TRIED}"
+LOOKS = f'grep -rq slower src && ! grep -rq "fn slow(" src || exit 9; {TRIED}'
 SECOND_FAILS = told("tests: 2", "test a ... ok", "test c ... FAILED", "    checked: stopped", "run=stopped proved=no")
 SECOND_IS_SLOW = told("tests: 2", "test a ... ok", "test c ... FAILED", "    checked: no-answer: the program did not end within the time limit")
 ONE_OF_ELEVEN = told("tests: 11", "test a ... ok")
@@ -181,9 +181,10 @@ class Check(unittest.TestCase):
             write(f"{at}/{path}", f"#!/bin/sh\n{text}\n", 0o755)
         write(f"{at}/examples/two_tests.record", "a record\n")
         write(f"{at}/gate/slow_tests", f"{given['slow']}\n" if given["slow"] else "")
-        write(f"{at}/crates.txt", "testkit:\n")
+        write(f"{at}/crates.txt", "".join(f"{crate} tests_may=Wait:\n" for crate in ["testkit", *TEST_CRATES]))
         for crate in os.listdir(f"{TOP}/crates"):
             write(f"{at}/crates/{crate}/src/a/b.rt", OTHERS + SLOW_ONE * (crate == "test_runs"))
+            write(f"{at}/crates/{crate}/src/lib.rt", "mod a;\n")
         write(f"{at}/{PROGRAM}", BUILT, 0o755)
         write(f"{at}/{KEPT}", BUILT, 0o755)
         write(f"{at}/bin/testkit-listener.jar", "a jar")
