@@ -1,7 +1,8 @@
-"""A copy of the repository for `rt try`, which is many times slower than the proved program, and compiles the libraries anew for each crate.
+"""A copy of the repository for `rt try`, which is many times slower than the proved program.
 
-It lacks the tests that `rt try` can't end in ten seconds: `gate/slow_tests` names them, a line a crate and a test. (`rt try` can't leave tests
-out, and waits for each until its time is over.) Crates of tests are joined to one, of which each is a module.
+It lacks the tests that `rt try` can't end in ten seconds: `gate/slow_tests` names them, a line a crate and a test. (`rt try` can't leave
+tests out, and waits for each until its time is over.) And `rt try` compiles the libraries anew for each crate, so that several crates of
+tests are joined to one, of which each is a module.
 """
 
 import os
@@ -48,15 +49,18 @@ def leave_out(sources: str, test: str) -> bool:
 
 
 def join(to: str, crates: Sequence[str]) -> str:
-    """Makes a crate of these crates of the copy, and returns its folder."""
+    """Makes one crate of these crates of the copy, where they are several, and returns its folder."""
     with open(f"{to}/crates.txt", encoding="utf-8") as file:
         lines = [line.partition("#")[0].partition(":") for line in file]
     named = {head.split()[0]: (head, libraries.split()) for head, _, libraries in lines if head.split()}
     may = {word for crate in crates for words in re.findall(r"tests_may=(\S+)", named[crate][0]) for word in words.split("+")}
     name = "_and_".join(crates)
     at = f"{to}/crates/{name}"
+    if len(crates) == 1:
+        return at
+    head = f"{name} tests_may={'+'.join(sorted(may))}" if may else name
     with open(f"{to}/crates.txt", "a", encoding="utf-8") as file:
-        file.write(f"\n{name} tests_may={'+'.join(sorted(may))}: {' '.join(dict.fromkeys(it for crate in crates for it in named[crate][1]))}\n")
+        file.write(f"\n{head}: {' '.join(dict.fromkeys(it for crate in crates for it in named[crate][1]))}\n")
     for crate in crates:
         shutil.copytree(f"{to}/crates/{crate}/src", f"{at}/src/{crate}")
         os.rename(f"{at}/src/{crate}/lib.rt", f"{at}/src/{crate}.rt")

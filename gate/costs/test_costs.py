@@ -1,7 +1,7 @@
 """What large inputs cost the program.
 
-`test_costs.rows` has the tables: for each command line and input the seconds of processor time, the most memory at one time, the requests for memory,
-the reads and the writes that it may take. `count.c` is put before the C library, and counts all but the seconds. These counts are the same
+`test_costs.rows` has the tables: for each command line and input the seconds of processor time, the most memory at one time, the requests
+for memory, the reads and the writes that it may take. `count.c` is put before the C library, and counts all but the seconds. These counts are the same
 on each machine, so a limit is a fifth above what was counted, or one. The requests of some plans may be a fiftieth to a twentieth above
 alone, so that one more for each node, message or registration is met. The least memory of a small plan shows how many places its queue has.
 The seconds were measured on one machine: a limit is four times what they were, twice for a machine half as fast, and twice for what the
@@ -329,7 +329,8 @@ def row(name: str, words: str, input: str, costs: str, begins: str, *more: str) 
 
 
 def pair(name: str, words: str, other: str, records: str, most: str) -> "Pair":
-    return Pair(name, words.split(), other.split(), [input_of(it) for it in (records.split() if isinstance(records, str) else [records])], float(most))
+    inputs = [input_of(it) for it in (records.split() if isinstance(records, str) else [records])]
+    return Pair(name, words.split(), other.split(), inputs, float(most))
 
 
 BODIES = f"{TOP}/crates/test_hierarchical/out/test_hierarchical_tests"

@@ -32,8 +32,11 @@ def failed(said, type="a.B"):
 
 
 STARTED, FINISHED, START = started(1, "[e:e]"), finished(1), "E|1|0|1|start"
-SKIPPED, WRONG_STATUS, STARTED_AT_5, FINISHED_AT_4 = finished(1, "SKIPPED"), finished(1, "ERRORED"), started(1, "[e:e]", seconds="05"), finished(1, seconds="04.5")
-BELOW, BARS, NO_ID, NO_TIME = started(1, "[e:e]/[c:x%2Fy]/[t:1]"), started(1, "[e:e|]", "n|", "CONTAINER_AND_TEST"), started(1, ""), started(1, "[e:e]", seconds="x")
+SKIPPED, WRONG_STATUS = finished(1, "SKIPPED"), finished(1, "ERRORED")
+STARTED_AT_5, FINISHED_AT_4 = started(1, "[e:e]", seconds="05"), finished(1, seconds="04.5")
+BELOW, BARS = started(1, "[e:e]/[c:x%2Fy]/[t:1]"), started(1, "[e:e|]", "n|", "CONTAINER_AND_TEST")
+NO_ID, NO_TIME = started(1, ""), started(1, "[e:e]", seconds="x")
+ENTITY = f'<!DOCTYPE e [<!ENTITY x SYSTEM "file:///etc/hostname">]>{failed("a.B: &x;")}'
 
 
 def right(name, report, *lines):
@@ -55,7 +58,7 @@ ROWS = rows(__file__, globals()) + [
     right("an id that is too long", HEAD + started(1, f"[e:{'x' * 4_093}]") + TAIL, "N|T|[replaced-id:0]|n", START),
     message("a message that is too long", f"a.B: {'x' * 65_535}\u65e5", f"|{'x' * 65_535} .. (65538 bytes)"),
     wrong("an entity", failed("&x;"), "the report is no XML: "),
-    wrong("a document type with an entity", f'<!DOCTYPE e [<!ENTITY x SYSTEM "file:///etc/hostname">]>{failed("a.B: &x;")}', "the report has a document type"),
+    wrong("a document type with an entity", ENTITY, "the report has a document type"),
 ]
 
 

@@ -1,4 +1,4 @@
-"""Holds each rule for sources against small trees that are right, or wrong in one way. (The repository itself shows what else is right.)"""
+"""Holds each rule for sources against small trees that are right, or wrong in one way; the repository itself shows what else is right."""
 
 from operator import itemgetter
 

@@ -5,7 +5,7 @@ from typing import List, Tuple
 
 import form
 from generated.conditions import ATOMS, brackets_of, condition
-from generated.numbers import Cases, Numbers, each_is_met, modelled, series
+from generated.numbers import Cases, Numbers, each_is_met, met_series, modelled
 from generated.recordings import record_text, short_record
 from harness import Case, Check
 from model.conditions import Condition, write_condition
@@ -146,9 +146,7 @@ def matches(mode: str, seed: int, conditions_for, answers: List[str]) -> Cases:
         text, selected = short_record(numbers), selection(numbers)
         return ["ask", "match", *selected, mode, *conditions_for(numbers, events_of(text, selected))], text
 
-    cases = series(f"generated {mode}", Numbers(seed), 300, asked)
-    met = [kind_of_answer(case.output.decode()) for case in cases]
-    return cases + [each_is_met(f"generated {mode}", met, answers, 4)]
+    return met_series(f"generated {mode}", seed, 300, asked, lambda case: [kind_of_answer(case.output.decode())], answers, 4)
 
 
 def kind_of_answer(output: str) -> str:
