@@ -50,7 +50,6 @@ class Taken:
         self.memory = max(self.memory, usage.ru_maxrss / 1024)
 
     def begins(self) -> str:
-        """The beginning of what it wrote."""
         with open(self.output, encoding="utf-8") as file:
             return file.read(100)
 
@@ -78,5 +77,4 @@ def beside(ours: Taken, plain: Taken) -> str:
 
 
 def load() -> str:
-    """How busy the machine is."""
     return f"load {os.getloadavg()[0]:.1f} on {os.cpu_count()} processors"

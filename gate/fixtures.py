@@ -5,6 +5,7 @@ A module `test_NAME.py` has classes of `unittest.TestCase`. `gate/run` runs it, 
 """
 
 import argparse
+import contextlib
 import functools
 import os
 import shutil
@@ -15,25 +16,32 @@ import tempfile
 import unittest
 from collections import Counter
 from dataclasses import dataclass
-from typing import Callable, Iterable, List, Sequence, Union
+from typing import Callable, Iterable, Iterator, List, Sequence, Union
 
 TOP = os.path.dirname(os.path.dirname(os.path.realpath(__file__)))
-"""The folder of the repository."""
 
 PROGRAM = os.environ.get("TESTKIT_PROGRAM") or f"{TOP}/crates/testkit/out/testkit"
 """The proved program, or the one that `gate/run --program` names."""
 
-TEST_CRATES = ["test_runs", "test_questions", "test_records", "test_sessions", "test_plans", "test_hierarchical", "test_example_engine"]
-"""The crates with tests; those that take longest come first."""
+TRIED = [["test_runs"], ["test_example_engine", "test_hierarchical"], ["test_records", "test_questions"], ["test_sessions", "test_plans"]]
+"""The crates of tests, those that are tried as one crate beside each other; what takes longest comes first."""
+TEST_CRATES = [crate for crates in TRIED for crate in crates]
 
 SECONDS = 300
-"""How many seconds a command may take: far more than any needs."""
 
 NO_PROGRAM = "no proved program"
 """The reason with which a test is skipped that needs the program."""
 
+NOT_QUICK = "left to the full gate"
+"""How the reason begins with which `gate/run --quick` skips a test that costs much and that others show as well."""
+
+IS_QUICK = "TESTKIT_QUICK" in os.environ
+SHARED = [int(it) for it in os.environ.get("TESTKIT_PROCESSORS", "").split()]
+"""Both ends of the pipe that `./check quick` has for the processors, with a byte for each that is free."""
+
 CHOSEN: List[str] = []
 """Parts of names, as `gate/run -k` has them: of a table the rows run whose name has one; all rows where there are none."""
+
 
 class WithProgram(unittest.TestCase):
     """Tests of the proved program, which are skipped where there is none."""
@@ -43,6 +51,24 @@ class WithProgram(unittest.TestCase):
         if not os.access(PROGRAM, os.X_OK):
             raise unittest.SkipTest(NO_PROGRAM)
         super().setUpClass()
+
+
+@contextlib.contextmanager
+def processor() -> Iterator[None]:
+    """Takes one of the processors that are shared, once it is free; where none are shared nothing is waited for."""
+    taken = SHARED and os.read(SHARED[0], 1)
+    try:
+        yield
+    finally:
+        if taken:
+            os.write(SHARED[1], taken)
+
+
+def share_processors() -> None:
+    """Shares the processors among the jobs of this process and of those that inherit the pipe."""
+    SHARED[:] = os.pipe()
+    os.write(SHARED[1], b"." * len(os.sched_getaffinity(0)))
+    os.environ["TESTKIT_PROCESSORS"] = " ".join(map(str, SHARED))
 
 
 def needs(command: str) -> Callable:
@@ -90,7 +116,6 @@ def folder(test: unittest.TestCase) -> str:
 
 
 def write(path: str, text: str, mode: int = 0o644) -> None:
-    """Writes a file, and makes the folders above it."""
     os.makedirs(os.path.dirname(path), exist_ok=True)
     with open(path, "w", encoding="utf-8") as file:
         file.write(text)
@@ -106,14 +131,15 @@ class Ran:
     error: bytes
 
 
-def run(words: Iterable[Union[str, bytes]], input: bytes = b"", seconds: float = SECONDS, **how) -> Ran:
-    """Runs a command; `how` goes to `Popen`.
+def run(words: Iterable[Union[str, bytes]], input: bytes = b"", seconds: float = SECONDS, look: Callable = lambda _: None, **how) -> Ran:
+    """Runs a command; `how` goes to `Popen`, and the process to `look`.
 
     Where its time is over it is killed with all that it started, and the status is -9.
     """
     pipes = {"stdin": subprocess.PIPE, "stdout": subprocess.PIPE, "stderr": subprocess.PIPE, **how}
     with subprocess.Popen(list(words), start_new_session=True, **pipes) as started:
         try:
+            look(started)
             output, error = started.communicate(input if pipes["stdin"] == subprocess.PIPE else None, timeout=seconds)
         except subprocess.TimeoutExpired:
             os.killpg(started.pid, signal.SIGKILL)
@@ -125,7 +151,6 @@ def run(words: Iterable[Union[str, bytes]], input: bytes = b"", seconds: float =
 
 
 def ask(words: Iterable[Union[str, bytes]], input: bytes = b"", **how) -> Ran:
-    """Runs the proved program."""
     return run([PROGRAM, *words], input, **how)
 
 

@@ -1,14 +1,19 @@
-"""A copy of the repository without the tests that `rt try` can't end in ten seconds, which is many times slower than the proved program.
+"""A copy of the repository for `rt try`, which is many times slower than the proved program.
 
-`gate/slow_tests` names them: a line has a crate and a test. `rt try` can't leave tests out, and waits for each until its time is over.
+It lacks the tests that `rt try` can't end in ten seconds: `gate/slow_tests` names them, a line a crate and a test. (`rt try` can't leave
+tests out, and waits for each until its time is over.) And `rt try` compiles the libraries anew for each crate, so that several crates of
+tests are joined to one, of which each is a module.
 """
 
 import os
 import re
 import shutil
-from typing import Dict, List, Tuple
+from glob import glob
+from typing import Dict, List, Sequence, Tuple
 
 LIST = "gate/slow_tests"
+ROOT = "#![tactic(auto)]\n\n"
+"""What stands in the root of a crate alone."""
 TEST = r"(?ms)(?:^ *///[^\n]*\n)*^( *)#\[test\]\n\1fn {}\(.*?^\1\}}\n"
 """A test, with its comment, as `rt fmt` lays it out."""
 
@@ -41,3 +46,29 @@ def leave_out(sources: str, test: str) -> bool:
     with open(path, "w", encoding="utf-8") as file:
         file.write(text)
     return number == 1
+
+
+def join(to: str, crates: Sequence[str]) -> str:
+    """Makes one crate of these crates of the copy, where they are several, and returns its folder."""
+    with open(f"{to}/crates.txt", encoding="utf-8") as file:
+        lines = [line.partition("#")[0].partition(":") for line in file]
+    named = {head.split()[0]: (head, libraries.split()) for head, _, libraries in lines if head.split()}
+    may = {word for crate in crates for words in re.findall(r"tests_may=(\S+)", named[crate][0]) for word in words.split("+")}
+    name = "_and_".join(crates)
+    at = f"{to}/crates/{name}"
+    if len(crates) == 1:
+        return at
+    head = f"{name} tests_may={'+'.join(sorted(may))}" if may else name
+    with open(f"{to}/crates.txt", "a", encoding="utf-8") as file:
+        file.write(f"\n{head}: {' '.join(dict.fromkeys(it for crate in crates for it in named[crate][1]))}\n")
+    for crate in crates:
+        shutil.copytree(f"{to}/crates/{crate}/src", f"{at}/src/{crate}")
+        os.rename(f"{at}/src/{crate}/lib.rt", f"{at}/src/{crate}.rt")
+        for path in [f"{at}/src/{crate}.rt", *glob(f"{at}/src/{crate}/**/*.rt", recursive=True)]:
+            with open(path, encoding="utf-8") as file:
+                text = file.read().replace("crate::", f"crate::{crate}::").replace(ROOT, "")
+            with open(path, "w", encoding="utf-8") as file:
+                file.write(text)
+    with open(f"{at}/src/lib.rt", "w", encoding="utf-8") as file:
+        file.write(ROOT + "".join(f"#[cfg(test)]\nmod {crate};\n" for crate in crates))
+    return at

@@ -1,37 +1,23 @@
-#!/usr/bin/env python3
-"""Says where the processor time of `rt` went, a line for each crate: `gate/times.py rt ci` at the top of the repository; `./check` does it too.
+"""Says where the processor time of `rt ci` went, a line for each crate.
 
-Each second it looks which checks run below the command, so a check's last second may be missing. A line has the seconds of the crate's proof,
-of its proof with its tests, of its wrong bodies, and of its tests and program as they run. What a check starts counts with it.
+Each second it looks which checks run below this process, so a check's last second may be missing. A line has the seconds of the crate's
+proof, of its proof with its tests, of its wrong bodies, and of its tests and program as they run. What a check starts counts with it.
 """
 
 import os
 import re
-import subprocess
-import sys
 import threading
-from dataclasses import dataclass, field
-from typing import Dict, List, NamedTuple, Optional, Tuple
+from collections import Counter, defaultdict
+from typing import Dict, List, Optional, Tuple
 
 KINDS = ("proof", "tests", "wrong bodies", "runs")
-SECONDS = 1.0
-"""How often processes are looked at."""
-
 TICKS = os.sysconf("SC_CLK_TCK")
 RAN = re.compile(r"/rt-run-[^/]+/bin/(\w+?)(?:_tests)?$")
 """A program or tests, as `rt ci` runs them."""
 
 
-class Process(NamedTuple):
-    """A process: its parent, when it started, and how many seconds it and those that ended below it took so far."""
-
-    parent: int
-    started: str
-    seconds: float
-
-
-def processes() -> Dict[int, Process]:
-    """All processes by their numbers."""
+def processes() -> Dict[int, Tuple[int, str, float]]:
+    """Of each process its parent, when it started, and how many seconds it and those that ended below it took so far."""
     found = {}
     for name in filter(str.isdecimal, os.listdir("/proc")):
         try:
@@ -39,7 +25,7 @@ def processes() -> Dict[int, Process]:
                 fields = file.read().rpartition(")")[2].split()
         except OSError:
             continue
-        found[int(name)] = Process(int(fields[1]), fields[19], sum(map(int, fields[11:15])) / TICKS)
+        found[int(name)] = int(fields[1]), fields[19], sum(map(int, fields[11:15])) / TICKS
     return found
 
 
@@ -59,17 +45,14 @@ def work_of(pid: int) -> Optional[Tuple[str, str]]:
     return crate, "wrong bodies" if "/rt-edit-" in place else "tests" if "--test" in words else "proof"
 
 
-@dataclass
 class Watch:
     """Looks at the processes below this one while it is entered."""
 
-    period: float = SECONDS
-    seen: Dict[Tuple[int, str], Tuple[str, str, float]] = field(default_factory=dict)
-    """Of each process that was counted its crate, its kind, and its seconds."""
-    ended: threading.Event = field(default_factory=threading.Event)
+    def __init__(self, period: float = 1.0) -> None:
+        self.seen: Dict[Tuple[int, str], Tuple[str, str, float]] = {}
+        self.period, self.ended, self.thread = period, threading.Event(), threading.Thread(target=self.watch, daemon=True)
 
     def __enter__(self) -> "Watch":
-        self.thread = threading.Thread(target=self.watch, daemon=True)
         self.thread.start()
         return self
 
@@ -82,46 +65,29 @@ class Watch:
             self.look()
 
     def look(self) -> None:
-        """Notes how long each process took so far."""
+        """Notes how long each check took so far: its crate, its kind and its seconds."""
         found = processes()
-        children: Dict[int, List[int]] = {}
-        for pid, process in found.items():
-            children.setdefault(process.parent, []).append(pid)
-        left = [(pid, None) for pid in children.get(os.getpid(), [])]
-        while left:
-            pid, counted = left.pop()
-            work = None if counted else work_of(pid)
-            if work:
-                counted = (pid, found[pid].started)
-                self.seen[counted] = (*work, 0.0)
-            if counted:
-                crate, kind, seconds = self.seen[counted]
-                self.seen[counted] = (crate, kind, seconds + found[pid].seconds)
-            left += [(child, counted) for child in children.get(pid, [])]
+        work = {pid: work_of(pid) for pid in found}
+        seconds: Dict[int, float] = Counter()
+        for pid, (_, _, own) in found.items():
+            above = [pid]
+            while above[-1] in found and above[-1] != os.getpid():
+                above.append(found[above[-1]][0])
+            checks = [it for it in above if work.get(it)]
+            if checks and above[-1] == os.getpid():
+                seconds[checks[-1]] += own
+        self.seen.update({(pid, found[pid][1]): (*work[pid], taken) for pid, taken in seconds.items()})
 
     def by_crate(self) -> Dict[str, Dict[str, float]]:
         """The seconds of each crate by kind, the dearest first."""
-        table: Dict[str, Dict[str, float]] = {}
+        table: Dict[str, Dict[str, float]] = defaultdict(lambda: dict.fromkeys(KINDS, 0.0))
         for crate, kind, seconds in self.seen.values():
-            row = table.setdefault(crate, dict.fromkeys(KINDS, 0.0))
-            row[kind] += seconds
+            table[crate][kind] += seconds
         return dict(sorted(table.items(), key=lambda it: -sum(it[1].values())))
 
     def lines(self) -> List[str]:
-        """A line for each crate, and one for all."""
         table = self.by_crate()
         total = {kind: sum(row[kind] for row in table.values()) for kind in KINDS}
         rows = [(f"{sum(row.values()):.0f}", *(f"{row[kind]:.0f}" for kind in KINDS), name) for name, row in [*table.items(), ("all crates", total)]]
         head = ("seconds", *KINDS, "crate")
         return ["  ".join([*(word.rjust(len(name)) for word, name in zip(row, head[:-1])), row[-1]]) for row in [head, *rows]]
-
-
-def main(command: List[str]) -> int:
-    with Watch() as watch:
-        status = subprocess.run(command, check=False).returncode
-    print(*watch.lines(), sep="\n", flush=True)
-    return status
-
-
-if __name__ == "__main__":
-    sys.exit(main(sys.argv[1:]))

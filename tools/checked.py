@@ -73,7 +73,6 @@ def changes_of(top: str) -> List[str]:
 
 
 def hash_of(path: str) -> str:
-    """Answers the SHA-256 of a file."""
     with open(path, "rb") as file:
         return hashlib.sha256(file.read()).hexdigest()
 
@@ -93,6 +92,5 @@ def read(top: str) -> Optional[Run]:
 
 
 def remove(top: str) -> None:
-    """Removes what an earlier run left."""
     if os.path.lexists(f"{top}/{RUN}"):
         os.remove(f"{top}/{RUN}")

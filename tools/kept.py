@@ -56,7 +56,6 @@ def can_compare_jar(top: str) -> bool:
 
 
 def proved_with(top: str, compiler: str, files: Dict[str, bytes]) -> bytes:
-    """Returns the text of PROVED-WITH."""
     kit = subprocess.run(["rt", "version"], stdin=subprocess.DEVNULL, stdout=subprocess.PIPE, text=True, check=True).stdout.splitlines()[0]
     sources = shell(top, "sum_of_sources").stdout.strip()
     sums = "".join(f"{hashlib.sha256(data).hexdigest()}  {name}\n" for name, data in sorted(files.items()))
@@ -69,7 +68,6 @@ def without_kit(text: bytes) -> bytes:
 
 
 def wanted(top: str) -> Dict[str, bytes]:
-    """Returns the files that bin/ has to have."""
     if not listener.can_be_made():
         raise Failed(listener.MISSING)
     files = {PROGRAM: built(top), listener.JAR: jar_of(top)}

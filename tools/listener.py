@@ -29,7 +29,6 @@ class NotCompiled(Exception):
 
 
 def can_be_made() -> bool:
-    """Whether a JDK and JUnit are there."""
     return shutil.which("javac") is not None and all(map(os.path.exists, JARS))
 
 

@@ -35,12 +35,10 @@ sys.dont_write_bytecode = True
 from asking import Failed, ask, not_an_answer, run_script
 
 UNITS = {"nanoseconds": 1, "microseconds": 1_000, "milliseconds": 1_000_000, "seconds": 1_000_000_000}
-"""The units of stamps, in nanoseconds."""
 
 TYPES = {"C": "container", "T": "test", "B": "container and test"}
 
 MOST_LISTED = 50
-"""How many executions and gaps the page lists."""
 
 UNFINISHED = "unfinished"
 ENDINGS = {"ok": "succeeded", "abort": "aborted", "fail": "failed"}
@@ -164,7 +162,6 @@ class Record:
         yield from [*unfinished, *left]
 
     def _has_times(self) -> bool:
-        """Whether the stamps are times."""
         latest: Dict[int, int] = {}
         for event in self.events:
             if event.stamp < latest.get(event.worker, 0):
@@ -296,7 +293,6 @@ def row_of(record: Record, it: Execution, descriptor: int, origin: int) -> List[
 
 
 def data_of(record: Record, unit: int, names: Sequence[str] = ()) -> Dict[str, object]:
-    """All that the page draws."""
     end = float(int(max(places_of(record), default=0)) + 1)
     lanes = lanes_of(record, end)
     origin = min((event.stamp for event in record.events), default=0)

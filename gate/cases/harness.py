@@ -12,15 +12,17 @@ import subprocess
 import tempfile
 import threading
 import time
-from dataclasses import dataclass
+from concurrent.futures import ThreadPoolExecutor
+from dataclasses import dataclass, replace
 from enum import Enum
 from typing import BinaryIO, Callable, List, Optional, Sequence, Tuple, Union
+
+from fixtures import Ran, run
 
 Bytes = Union[bytes, Callable[[], bytes]]
 """Bytes, or a function that makes them when they are needed (for large ones)."""
 
 USAGE = os.path.join(os.path.dirname(os.path.realpath(__file__)), "../../crates/testkit/usage.txt")
-"""The page of usage."""
 
 TIME_LIMIT = 600
 """How many seconds a run may take: far more than any needs, so that a slow machine fails no case."""
@@ -38,20 +40,12 @@ CUT = 4_096
 """How many bytes are read of an output that is cut."""
 
 
-def broken_pipe() -> int:
-    """The writing end of a pipe that has no reading end."""
-    reading, writing = os.pipe()
-    os.close(reading)
-    return writing
-
-
-BROKEN_PIPE = broken_pipe()
+READING, BROKEN_PIPE = os.pipe()
+os.close(READING)
 """It is made before there are threads: a program that another thread starts shares its reading end for a while."""
 
 
 class Input(Enum):
-    """What standard input is."""
-
     BYTES = "a pipe with the bytes of the case"
     FILE = "a file with the bytes of the case"
     PIECES = "a pipe into which the bytes of the case are written one by one"
@@ -61,8 +55,6 @@ class Input(Enum):
 
 
 class Output(Enum):
-    """What standard output, or standard error, is."""
-
     KEPT = "what is written is compared"
     CLOSED = "closed"
     FULL = "a full device"
@@ -98,9 +90,10 @@ class Case:
     memory: Optional[int] = None
     """How many KiB of memory the program may have, if that is limited; the stack of a thread then has `STACK`."""
 
-    def run(self, program: str, watcher: Optional["Watcher"] = None) -> Optional[str]:
+    def run(self, program: str, look: Callable = lambda _: None) -> Optional[str]:
         """What differs, or None where the case passes."""
-        status, output, error = start(self, program, watcher)
+        ran = start(self, program, look)
+        status, output, error = ran.status, ran.output, ran.error
         wanted = made(self.output)[:CUT] if self.standard_output == Output.CUT_PIPE else made(self.output)
         differences = []
         if status != self.status:
@@ -122,7 +115,6 @@ class Check:
     wanted: object
 
     def run(self, program: str) -> Optional[str]:
-        """What differs, or None where the two are equal."""
         return None if self.got == self.wanted else f"{self.got!r}, wanted {self.wanted!r}"
 
 
@@ -142,10 +134,9 @@ class ThreadCount:
         return self.case.name
 
     def run(self, program: str) -> Optional[str]:
-        """What differs, or None where the case passes and a run is seen with `threads` threads."""
         watcher = Watcher()
         for _ in range(MOST_RUNS):
-            fault = self.case.run(program, watcher)
+            fault = self.case.run(program, watcher.look)
             if fault is not None or watcher.most > self.threads:
                 return fault or f"{watcher.most} threads, wanted {self.threads}"
             if watcher.most == self.threads:
@@ -160,69 +151,54 @@ class Watcher:
         self.most = 0
 
     def look(self, process: subprocess.Popen) -> None:
+        threading.Thread(target=self.count, args=(process,)).start()
+
+    def count(self, process: subprocess.Popen) -> None:
         with contextlib.suppress(FileNotFoundError, ProcessLookupError):
             while process.returncode is None:
                 self.most = max(self.most, len(os.listdir(f"/proc/{process.pid}/task")))
                 time.sleep(0.001)
 
 
-Ended = Tuple[int, bytes, bytes]
-"""The status of a run, its output and its error."""
-
-
-def start(case: Case, program: str, watcher: Optional[Watcher] = None) -> Ended:
+def start(case: Case, program: str, look: Callable = lambda _: None) -> Ran:
     """Runs the program on a case. It is killed, and its status is -9, where the time limit passes."""
+    seconds = SECONDS_WITH_OPEN_INPUT if case.standard_input == Input.OPEN else TIME_LIMIT
     with contextlib.ExitStack() as opened:
-        outputs = {"stdout": output_of(case.standard_output, opened), "stderr": output_of(case.standard_error, opened)}
-        process = subprocess.Popen(command_of(case, program), bufsize=0, stdin=input_of(case, opened), **outputs)
-    limit = threading.Timer(SECONDS_WITH_OPEN_INPUT if case.standard_input == Input.OPEN else TIME_LIMIT, process.kill)
-    limit.start()
-    looking = threading.Thread(target=watcher.look, args=(process,)) if watcher else None
-    if looking:
-        looking.start()
-    try:
-        return end(case, process)
-    finally:
-        limit.cancel()
-        if process.returncode is None:
-            # (what could not be given its input is left by an exception)
-            process.kill()
-            process.wait()
-        if looking:
-            looking.join()
+        how = {"stdout": output_of(case.standard_output, opened), "stderr": output_of(case.standard_error, opened)}
+        how["stdin"], first = input_of(case, opened), None
+        if case.standard_output == Output.CUT_PIPE:
+            reading, how["stdout"] = pipe(opened)
+            first = ThreadPoolExecutor().submit(read_first, reading)
+        given = made(case.input) if how["stdin"] == subprocess.PIPE else b""
+        ran = run(command_of(case, program), given, seconds, look, bufsize=0, **how)
+    return replace(ran, output=first.result()) if first else ran
 
 
-def end(case: Case, process: subprocess.Popen) -> Ended:
-    """Gives a process its input, and waits for its end."""
-    first = b""
-    if case.standard_output == Output.CUT_PIPE:
-        with io.BufferedReader(process.stdout) as pipe:
-            first = pipe.read(CUT)
-        process.stdout = None
-    if case.standard_input in (Input.OPEN, Input.PIECES):
-        pipe, process.stdin = process.stdin, None
-        writing = threading.Thread(target=write_pieces, args=(pipe, made(case.input), case.standard_input))
-        writing.start()
-        output, error = process.communicate()
-        writing.join()
-        pipe.close()
-    else:
-        output, error = process.communicate(made(case.input) if process.stdin else None)
-    return process.returncode, output or first, error or b""
+def pipe(opened: contextlib.ExitStack) -> Tuple[BinaryIO, BinaryIO]:
+    """Both ends of a pipe, of which the writing end is closed first."""
+    reading, writing = (os.fdopen(end, how, buffering=0) for end, how in zip(os.pipe(), ("rb", "wb")))
+    opened.callback(writing.close)
+    return reading, writing
 
 
-def write_pieces(pipe: BinaryIO, data: bytes, kind: Input) -> None:
+def read_first(source: BinaryIO) -> bytes:
+    """Reads `CUT` bytes, or all where there are fewer, and closes the pipe."""
+    with io.BufferedReader(source) as buffered:
+        return buffered.read(CUT)
+
+
+def write_pieces(target: BinaryIO, data: bytes, kind: Input) -> None:
     """Writes bytes as long as they are read: one by one, and then closes the pipe; or many at once, and leaves it open."""
     size = 1 if kind == Input.PIECES else 1 << 16
     with contextlib.suppress(BrokenPipeError):
         for at in range(0, len(data), size):
-            pipe.write(data[at : at + size])
+            target.write(data[at : at + size])
     if kind == Input.PIECES:
-        pipe.close()
+        target.close()
 
 
 def input_of(case: Case, opened: contextlib.ExitStack) -> Union[int, BinaryIO]:
-    """What is standard input; what is opened for it is closed when the program has it."""
+    """What is standard input until all that is opened is closed."""
     if case.standard_input == Input.FILE or case.standard_output == Output.CUT_PIPE:
         file = opened.enter_context(tempfile.TemporaryFile())
         file.write(made(case.input))
@@ -232,6 +208,14 @@ def input_of(case: Case, opened: contextlib.ExitStack) -> Union[int, BinaryIO]:
         folder = os.open("/", os.O_RDONLY)
         opened.callback(os.close, folder)
         return folder
+    if case.standard_input in (Input.OPEN, Input.PIECES):
+        reading, writing = pipe(opened)
+        thread = threading.Thread(target=write_pieces, args=(writing, made(case.input), case.standard_input))
+        thread.start()
+        # (a writer that waits is let go by the end of the pipe's other end)
+        opened.callback(thread.join)
+        opened.callback(reading.close)
+        return reading
     return subprocess.PIPE
 
 

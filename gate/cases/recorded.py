@@ -19,14 +19,14 @@ class RecordedRun:
     def run(self, program: str) -> Optional[str]:
         """What differs, or None where the case passes."""
         words = [b"run", b"--record", b"--workers", str(self.workers).encode()]
-        status, record, error = start(Case(self.name, words, self.plan), program)
-        if status != 0 or error:
-            return f"status {status}, error {error!r}"
+        ran = start(Case(self.name, words, self.plan), program)
+        if ran.status != 0 or ran.error:
+            return f"status {ran.status}, error {ran.error!r}"
         for question, answers in ((b"report", [self.report]), (b"lifecycle", [b"yes\n"]), (b"locks", [b"yes\n", b"no pair\n"])):
-            modelled = outcome([b"ask", question], record)
+            modelled = outcome([b"ask", question], ran.output)
             if modelled.output not in answers or modelled.error:
-                return f"the model answers {modelled!r} to {question!r} of {record!r}"
-            fault = Case(self.name, [b"ask", question], record, modelled.output, status=modelled.status).run(program)
+                return f"the model answers {modelled!r} to {question!r} of {ran.output!r}"
+            fault = Case(self.name, [b"ask", question], ran.output, modelled.output, status=modelled.status).run(program)
             if fault:
-                return f"{question!r} of {record!r}: {fault}"
+                return f"{question!r} of {ran.output!r}: {fault}"
         return None

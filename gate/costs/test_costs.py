@@ -1,14 +1,14 @@
 """What large inputs cost the program.
 
-`ROWS` is the table: for each command line and input the seconds of processor time, the most memory at one time, the requests for memory,
-the reads and the writes that it may take. `count.c` is put before the C library, and counts all but the seconds. These counts are the same
+`test_costs.rows` has the tables: for each command line and input the seconds of processor time, the most memory at one time, the requests
+for memory, the reads and the writes that it may take. `count.c` is put before the C library, and counts all but the seconds. These counts are the same
 on each machine, so a limit is a fifth above what was counted, or one. The requests of some plans may be a fiftieth to a twentieth above
 alone, so that one more for each node, message or registration is met. The least memory of a small plan shows how many places its queue has.
 The seconds were measured on one machine: a limit is four times what they were, twice for a machine half as fast, and twice for what the
 program may need more. Where a run waits, its seconds by the clock have a limit too. A run that is only too slow, as on a busy machine, is
 repeated.
 
-`OF_BODIES` has the same of tests of engines whose tests have bodies, which the program doesn't run. `BESIDE` has questions of which one may
+`OF_BODIES` has the same of tests of engines whose tests have bodies, which the program doesn't run. Pairs are questions of which one may
 take at most some times as long as the other, whatever the machine.
 """
 
@@ -25,6 +25,7 @@ from typing import BinaryIO, Callable, Iterable, Iterator, List, Optional, Seque
 
 import fixtures
 from fixtures import PROGRAM, TOP, WithProgram, folder, parameterized
+from rows import rows
 
 sys.path.append(f"{TOP}/gate/faults")
 
@@ -40,8 +41,6 @@ MOST_SECONDS = 300
 
 @dataclass(frozen=True)
 class Costs:
-    """What a run cost."""
-
     seconds: float
     memory: int
     """KiB, rounded up."""
@@ -52,15 +51,12 @@ class Costs:
     """Seconds by the clock; a limit has them where a run waits."""
 
     def above(self, limit: "Costs") -> List[str]:
-        """The costs that are above a limit."""
         pairs = [(it.name, getattr(self, it.name), getattr(limit, it.name)) for it in fields(self)]
         return [f"{name} {cost}, and may be {most}" for name, cost, most in pairs if cost > most]
 
 
 @dataclass(frozen=True)
 class Row:
-    """A command line and its input, what it answers, and what it may cost."""
-
     name: str
     words: Sequence[str]
     input: Callable[[], bytes]
@@ -95,7 +91,6 @@ def repeated(front: str, middle: str, back: str = "") -> Callable[[], bytes]:
 
 
 def node(members: str, value: str = "e", kind: str = "container") -> str:
-    """A node of a plan."""
     return f'{{"type":"{kind}","segment":["engine","{value}"],"name":"n"{members}}}'
 
 
@@ -104,7 +99,6 @@ def plan(root: str) -> bytes:
 
 
 def plan_of_nodes(count: int, members: str, below: str = "children") -> bytes:
-    """A plan with this number of tests below its root."""
     return plan(node(f',"{below}":[' + ",".join(node(members, str(number), "test") for number in range(count)) + "]"))
 
 
@@ -125,7 +119,6 @@ def plan_of_entries(last: str = "", entry: str = '[["key","value %d"]]', count: 
 
 
 def plan_of_a_text(value: str) -> bytes:
-    """A plan of one node with one entry of this value."""
     return plan(node(f',"entries":[[["k","{value}"]]]'))
 
 
@@ -222,18 +215,15 @@ def tests_of_an_engine() -> bytes:
 
 
 def tests_side_by_side() -> bytes:
-    """Tests that all start before the first finishes, after the engine."""
     return record_of_tests("n", BEGIN, END, events("start"), events("finish|ok"))
 
 
 def roots_side_by_side() -> bytes:
-    """Roots that all start before the first finishes."""
     nodes = "".join(f"N|T|[t:{number}]|n\n" for number in range(65_000))
     return f"testkit-record|2\n{nodes}{events('start', keys=range(65_000))}{events('finish|ok', keys=range(65_000))}".encode()
 
 
 def registered_side_by_side() -> bytes:
-    """Registered tests that all start before the first finishes, within the engine."""
     keys = range(65_536, 65_536 + 65_000)
     made = "".join(f"E|1|{key}|0|dynamic|T|[engine:e]/[t:{key}]|n\n" for key in keys)
     return f"{RECORD.replace('|T|', '|C|')}{BEGIN}{made}{events('start', keys=keys)}{events('finish|ok', keys=keys)}{END}".encode()
@@ -292,8 +282,8 @@ FAILURES = repeated(RECORD, "E|1|0|7|start\nE|1|0|8|finish|ok\n", "E|1|0|9|finis
 STARTS = repeated(RECORD, "E|1|0|7|start\n")
 NEVER_FINISHED = repeated(RECORD + 2 * "E|1|0|7|start\nE|1|0|8|finish|ok\n", "E|1|0|7|start\n")
 LONG_REASON = repeated(RECORD + "E|1|0|7|skip|", "x", "\n")
-SHORT_STAMPS = [repeated(RECORD, f"E|1|0|{7 * 10**17}|{tail}\n") for tail in ("start", "finish|fail|boom")]
-LONG_STAMPS = [repeated(RECORD, f"E|1|0|{2**64 - 1}|{tail}\n") for tail in ("start", "finish|fail|boom")]
+short_starts, short_failures = (repeated(RECORD, f"E|1|0|{7 * 10**17}|{tail}\n") for tail in ("start", "finish|fail|boom"))
+long_starts, long_failures = (repeated(RECORD, f"E|1|0|{2**64 - 1}|{tail}\n") for tail in ("start", "finish|fail|boom"))
 """Entries with stamps of 18 digits, and of 20, which are read digit by digit with a check of each."""
 DYNAMIC_KEY = f"E|1|65536|0|dynamic|T|[engine:e]/[t:{'v' * 4_000}]|n\n"
 ONE_DYNAMIC_KEY = repeated(RECORD.replace("|T|", "|C|") + DYNAMIC_KEY, "E|1|65536|7|start\n")
@@ -304,106 +294,45 @@ OVERLAPPING = repeated(
 )
 REPORTS = repeated(f"{RECORD}E|1|0|7|start\n", "E|1|0|7|report\n", "E|1|0|8|finish|ok\n")
 
+DESCRIPTORS = lambda: record_of_tests("n" * 200)
+REASONS = repeated(RECORD, "E|1|0|7|skip|a reason of some length\n")
+ESCAPES = repeated(RECORD + "E|1|0|7|skip|", "\\p", "\n")
+LONG_NUMBER, LONG_ID = repeated(RECORD + "E|", "1", "|0|7|start\n"), repeated(RECORD + "N|T|[engine:", "e", "]|e\n")
+NO_LINE_FEED, BAD_LINE_FIRST = repeated(RECORD + "E|1|0|7|skip|", "x"), repeated(RECORD + "X\n", "x")
+TWICE_AS_LARGE = lambda: EVENTS() + b"\n" * SIZE
+SMALL_REPLAY = lambda: b"testkit-replay|2\nW|1\nN|T|[engine:e]|e\nE|1|0|7|start\nS|1|1|t|t\n"
+ENTRIES_AND_A_FAULT = lambda: plan_of_entries(',"files":[""]')
+ENTRIES_OF_TWO_PAIRS = lambda: plan_of_entries(entry='[["a","%d"],["b",""]]', count=600_000)
+LONG_NAME = lambda: plan(node("").replace('"n"', f'"{"n" * 15 * KIB * KIB}"'))
+LONG_TEXT, LONG_TEXT_WITH_ESCAPES = lambda: plan_of_a_text("x" * 16_000_000), lambda: plan_of_a_text("\\n" * 8_000_000)
+NODES, MESSAGES = lambda: plan_of_nodes(65_000, ""), lambda: plan_of_nodes(50_000, FAILS)
+DYNAMIC_NODES, UNITS = lambda: plan_of_nodes(65_000, "", "dynamic"), lambda: plan_of_nodes(65_000, ',"mode":"concurrent"')
+TWO_NODES, ONE_DYNAMIC_NODE = lambda: plan_of_nodes(2, ""), lambda: plan_of_nodes(1, "", "dynamic")
+
 BAD = "testkit: line 3 is bad\n"
-RARE = "ask match loosely" + 1_000 * " all(failed(boom),name(e))"
-MANY_MEMBERS = f"all({','.join(2_000 * ['failed'])})"
+RARE, OF_NO_COLUMN = 1_000 * "all(failed(boom),name(e)) ", 1_000 * "any(name(x),name(e)) "
+MANY_MEMBERS, ONE_OF_MANY = f"all({','.join(2_000 * ['failed'])})", f"any({'started,' * 12_000}started)"
 TEXT_ATOMS = ["skipped(x{})", "message(x{})", "failed(x{})", "aborted(x{})", "file(x{})", "entry(x{},v)"]
 MANY_TEXTS = f"all({','.join(TEXT_ATOMS[number % 6].format(number) for number in range(2_000))})"
-OF_NO_COLUMN = "ask match loosely" + 1_000 * " any(name(x),name(e))"
-LAST_FAILS = 49 * " started" + " failed"
-TOO_EARLY = " failed(boom)" + 49 * " started"
-LAST_DIFFERS = 49 * " kind(skip)" + " failed"
+FIFTY_START, MOST_START, MANY_START = (count * "started " for count in (50, 99, 10_000))
+LAST_FAILS, TOO_EARLY, LAST_DIFFERS = 49 * "started " + "failed", "failed(boom)" + 49 * " started", 49 * "kind(skip) " + "failed"
 
 
-def row(name: str, words: str, input: Callable[[], bytes], limit: Costs, begins: str, **how) -> Row:
-    """A row of the program, whose words stand with blanks between them; a line on standard error has the status 2, and a no 1."""
+def input_of(name: str) -> Callable[[], bytes]:
+    return globals()[name] if isinstance(name, str) else name
+
+
+def row(name: str, words: str, input: str, costs: str, begins: str, *more: str) -> Row:
+    """A row of the program; a line on standard error has the status 2, and a no 1."""
     status = 2 if begins.startswith("testkit: ") else int(begins.startswith(("no ", "wrong-count")))
-    return Row(name, words.split(), input, limit, begins, **{"status": status, **how})
+    limit = Costs(*(float(it) if "." in it else int(it) for it in costs.split()))
+    how = {name: int(globals().get(value, value)) for name, _, value in (it.partition("=") for it in more)}
+    return Row(name, words.split(), input_of(input), limit, begins, **{"status": status, **how})
 
 
-ROWS = [
-    row("record/stats", "ask stats", EVENTS, Costs(0.8, 25_000, 200, 312, 2), "skipped 0\n"),
-    row("record/executions", "ask executions", EVENTS, Costs(0.8, 49_400, 210, 312, 153), "0 succeeded 7 8\n"),
-    row("record/exclusive", "ask exclusive test", EVENTS, Costs(0.8, 49_400, 210, 312, 2), "yes\n"),
-    row("record/exclusive of 65,000 readers side by side", "ask exclusive engine test", tests_side_by_side, Costs(0.8, 49_400, 391_000, 312, 2), "yes\n"),
-    row("record/exclusive of starts that never finish", "ask exclusive test", NEVER_FINISHED, Costs(0.8, 61_000, 210, 312, 2), "yes\n"),
-    row("record/executions of tests", "ask executions tests", EVENTS, Costs(0.8, 49_400, 210, 312, 153), "0 succeeded 7 8\n"),
-    row("record/locks, none", "ask locks", EVENTS, Costs(0.7, 44_500, 190, 258, 2), "no pair\n"),
-    row("record/locks, 20,000 readers of one", "ask locks", one_lock_read, Costs(0.4, 26_800, 120_260, 240, 2), "yes\n"),
-    row("record/locks, 4,000 of sixteen tests each", "ask locks", many_locks, Costs(0.7, 36_300, 398_730, 232, 2), "yes\n"),
-    row("record/locks, 4,000 of each of 100 tests", "ask locks", many_locks_of_each, Costs(0.7, 44_000, 482_000, 258, 2), "no pair\n"),
-    row("record/locks, global beside 60,000 tests", "ask locks", one_global, Costs(0.6, 33_400, 288_280, 246, 2), "yes\n"),
-    row("record/locks, global and another above 60,000 tests", "ask locks", locks_above, Costs(0.7, 36_700, 432_320, 239, 2), "no pair\n"),
-    row("record/locks of starts that never finish", "ask locks", held_and_never_finished, Costs(0.7, 71_900, 210, 258, 2), "yes\n"),
-    row("record/locks of a test that runs again and again", "ask locks", held_again_and_again, Costs(0.7, 44_500, 210, 258, 2), "no pair\n"),
-    row("record/list of all", "ask list all", EVENTS, Costs(0.8, 25_000, 190, 312, 442), "0 E|1|0|7|start\n1 E|1|0|8|finish|ok\n"),
-    row("record/list by 100 conditions", "ask list all" + 99 * " started" + " not(started)", EVENTS, Costs(0.8, 25_000, 570, 312, 0), ""),
-    row("record/lifecycle of 65,000 tests", "ask lifecycle", tests_of_an_engine, Costs(1.5, 29_300, 469_000, 285, 2), "yes\n"),
-    row("record/lifecycle of 65,000 roots side by side", "ask lifecycle", roots_side_by_side, Costs(1.5, 15_400, 78_300, 69, 2), "yes\n"),
-    row("record/lifecycle of 65,000 registered side by side", "ask lifecycle", registered_side_by_side, Costs(1.5, 23_300, 234_300, 107, 2), "yes\n"),
-    row("record/lifecycle of one registered by the last worker", "ask lifecycle", registered_by_the_last_worker, Costs(0.4, 8, 60, 2, 2), "yes\n"),
-    row("record/lifecycle of one test", "ask lifecycle", REPORTS, Costs(1.2, 226_300, 230, 312, 2), "yes\n"),
-    row("record/report of 65,000 tests", "ask report", tests_of_an_engine, Costs(1.6, 35_400, 391_000, 285, 50), "skipped 0\nstarted 65001\n"),
-    row("record/100 conditions in order", "ask match in-order" + 99 * " started" + " failed", EVENTS, Costs(0.7, 25_000, 470, 312, 2), "no 99\n"),
-    row("record/100 conditions loosely", "ask match loosely" + 99 * " started" + " failed", EVENTS, Costs(0.6, 25_000, 460, 312, 2), "no 99\n"),
-    row("record/1,000 rare conditions loosely", RARE, FAILING, Costs(1.3, 25_600, 11_000, 312, 2), "yes\n"),
-    row("record/1,000 rare conditions loosely, 1,000 failures", RARE, FAILURES, Costs(1.3, 25_700, 11_000, 312, 2), "yes\n"),
-    row("record/1,000 conditions without a test of a column", OF_NO_COLUMN, EVENTS, Costs(0.8, 25_500, 9_800, 312, 2), "yes\n"),
-    row("record/lifecycle of 60,000 registrations", "ask lifecycle", registrations, Costs(0.8, 34_600, 288_300, 272, 2), "yes\n"),
-    row("record/report of 60,000 registrations", "ask report", registrations, Costs(0.8, 65_000, 504_400, 272, 261), "skipped 0\nstarted 60001\n"),
-    row("record/report of one dynamic key", "ask report", ONE_DYNAMIC_KEY, Costs(0.8, 34_500, 220, 312, 3), "skipped 0\nstarted "),
-    row("record/report of one id", "ask report", STARTS, Costs(0.8, 64_200, 220, 312, 3), "skipped 0\nstarted 1198"),
-    row("explained/loosely, the last of 50 conditions fails", "ask explain loosely" + LAST_FAILS, EVENTS, Costs(1.8, 26_000, 600, 312, 2), "no 49\n49 failed\n    1: "),
-    row("explained/loosely, 1,000 rare conditions", RARE.replace("match", "explain"), FAILING, Costs(1.3, 25_600, 15_900, 312, 30), "yes\n0 all("),
-    row("explained/loosely, 2,000 members", f"ask explain loosely {MANY_MEMBERS}", twenty_thousand_events, Costs(1.5, 2_000, 9_900, 12, 2), "no 0\n"),
-    row("explained/loosely, 2,000 members with texts", f"ask explain loosely {MANY_TEXTS}", twenty_thousand_events, Costs(0.4, 2_000, 20_300, 12, 2), "no 0\n"),
-    row("explained/statistics", "ask explain stats all failed=9", FAILURES, Costs(0.8, 25_000, 200, 312, 2), "skipped 0\n", status=1),
-    row("explained/in order, the last of 50 conditions fails", "ask explain in-order" + LAST_FAILS, EVENTS, Costs(1.8, 26_000, 1_000, 312, 2), "no 49\n0 started\n    0: "),
-    row("explained/in order, too early", "ask explain in-order" + TOO_EARLY, FAILING, Costs(1.8, 26_000, 600, 312, 2), "no 1\n0 failed(boom)\n"),
-    row("explained/exactly, the last of 50 differs", "ask explain exactly" + LAST_DIFFERS, fifty_skips, Costs(1.2, 40_000, 600, 312, 9), "no 49\n49 failed\n    49: "),
-    row("explained/wrong count", "ask explain exactly" + 50 * " started", EVENTS, Costs(0.8, 26_000, 600, 312, 2), "wrong-count\n50 conditions, "),
-    row("explained/list of all", "ask explain list all", EVENTS, Costs(1.5, 25_000, 200, 312, 800), '0 E|1|0|7|start   [engine:e] "e"\n'),
-    row("explained/executions", "ask explain executions", EVENTS, Costs(1.2, 49_400, 210, 312, 300), "0 succeeded 7 8 [engine:e]\n"),
-    row("explained/exclusive", "ask explain exclusive test", OVERLAPPING, Costs(1.5, 110_000, 260, 312, 2), "no "),
-    row("explained/lifecycle, a child that runs", "ask explain lifecycle", a_test_still_runs, Costs(1.5, 40_000, 480_000, 285, 2), "no 130000 child-running\n"),
-    row("record/many conditions", "ask match loosely" + 10_000 * " started", one_event, Costs(0.4, 4_400, 25_000, 6, 2), "yes\n"),
-    row("record/a long condition", f"ask match loosely any({'started,' * 12_000}started)", one_event, Costs(0.4, 1_550, 15_000, 6, 2), "yes\n"),
-    row("record/descriptors", "ask count tests", lambda: record_of_tests("n" * 200), Costs(1, 27_700, 234_100, 270, 2), "0\n"),
-    row("record/long ids", "ask count all", long_ids, Costs(1.6, 19_700, 19_300, 297, 2), "0\n"),
-    row("record/registrations", "ask count dynamic", registrations, Costs(1, 28_800, 216_200, 272, 2), "60000\n"),
-    row("record/reasons", "ask count skipped", repeated(RECORD, "E|1|0|7|skip|a reason of some length\n"), Costs(1.1, 69_500, 550_000, 312, 2), "4"),
-    row("long line/reason", "ask count skipped", LONG_REASON, Costs(0.8, 40_000, 70, 312, 2), "1\n"),
-    row("long line/escapes", "ask count skipped", repeated(RECORD + "E|1|0|7|skip|", "\\p", "\n"), Costs(0.9, 30_000, 90, 312, 2), "1\n"),
-    row("long line/pairs", "ask count reporting", pairs, Costs(2.7, 230_000, 3_700_000, 279, 2), "1\n"),
-    row("long line/number", "ask count all", repeated(RECORD + "E|", "1", "|0|7|start\n"), Costs(0.4, 20_000, 50, 312, 0), BAD),
-    row("long line/id", "ask count all", repeated(RECORD + "N|T|[engine:", "e", "]|e\n"), Costs(1.4, 39_400, 80, 312, 0), BAD),
-    row("long line/no line feed", "ask count all", repeated(RECORD + "E|1|0|7|skip|", "x"), Costs(0.7, 20_000, 50, 313, 0), BAD),
-    row("long line/in pieces of 1 KiB", "ask count all", repeated(RECORD + "E|1|0|7|skip|", "x"), Costs(0.7, 20_000, 50, 16_400, 0), BAD, piece=KIB),
-    row("record/a bad line first", "ask count all", repeated(RECORD + "X\n", "x"), Costs(0.2, 1_000, 50, 312, 0), BAD),
-    row("record/16 MiB too many", "ask count all", lambda: EVENTS() + b"\n" * SIZE, Costs(0.6, 25_000, 200, 312, 0), "testkit: input too large\n"),
-    row("replay/waiting", "replay", waiting_replay, Costs(0.6, 105_800, 330, 87, 69), "testkit-record|2\n"),
-    row("plan/entries", "run", plan_of_entries, Costs(3.9, 370_000, 3_700_000, 278, 3), "skipped 0\n"),
-    row("plan/entries and a fault", "run", lambda: plan_of_entries(',"files":[""]'), Costs(2.8, 370_000, 3_700_000, 278, 0), "testkit: plan member /root/files/0 is bad\n"),
-    row("plan/entries of two pairs", "run", lambda: plan_of_entries(entry='[["a","%d"],["b",""]]', count=600_000), Costs(3.9, 543_000, 5_671_000, 278, 3), "skipped 0\n"),
-    row("plan/a long name", "run", lambda: plan(node("").replace('"n"', f'"{"n" * 15 * KIB * KIB}"')), Costs(0.6, 75_000, 170, 299, 3), "skipped 0\n"),
-    row("plan/units with entries", "run", units_with_entries, Costs(3, 187_000, 1_303_000, 96, 172), "skipped 0\n"),
-    row("plan/a long text", "run", lambda: plan_of_a_text("x" * 16_000_000), Costs(0.6, 57_200, 170, 299, 3), "skipped 0\n"),
-    row("plan/a long text with escapes", "run", lambda: plan_of_a_text("\\n" * 8_000_000), Costs(1.5, 47_900, 190, 299, 3), "skipped 0\n"),
-    row("plan/nodes", "run", lambda: plan_of_nodes(65_000, ""), Costs(1.5, 102_600, 819_400, 72, 56), "skipped 0\n"),
-    row("plan/messages", "run", lambda: plan_of_nodes(50_000, FAILS), Costs(2, 163_600, 1_275_400, 183, 137), "skipped 0\n"),
-    row("plan/containers with long names", "run", plan_of_containers, Costs(1.6, 80_600, 798_400, 125, 40), "skipped 0\n"),
-    row("plan/dynamic nodes", "run", lambda: plan_of_nodes(65_000, "", "dynamic"), Costs(1.8, 102_600, 1_092_600, 72, 103), "skipped 0\n"),
-    row("plan/units", "run", lambda: plan_of_nodes(65_000, ',"mode":"concurrent"'), Costs(1.8, 111_200, 955_900, 96, 56), "skipped 0\n"),
-    row("plan/one long unit of 15", "run --workers 15", one_long_unit, Costs(3, 212_300, 1_200_600, 57, 4), "skipped 0\nstarted 16\n"),
-    row("small/record", "ask stats", one_event, Costs(0.4, 10, 60, 6, 2), "skipped 0\n"),
-    row("small/replay", "replay", lambda: b"testkit-replay|2\nW|1\nN|T|[engine:e]|e\nE|1|0|7|start\nS|1|1|t|t\n", Costs(0.4, 20, 100, 6, 2), "testkit-record|2\n"),
-    row("small/plan", "run", lambda: plan_of_nodes(2, ""), Costs(0.4, 20, 190, 6, 2), "skipped 0\n", least_memory=15),
-    row("small/plan with a dynamic node", "run", lambda: plan_of_nodes(1, "", "dynamic"), Costs(0.4, 21, 180, 6, 2), "skipped 0\n", least_memory=15),
-    row("waiting/1 worker", "run", one_lock, Costs(1.2, 80_000, 1_210_000, 49, 60, 20), "skipped 0\n", is_alone=True),
-    row("waiting/4 workers for one lock", "run --workers 4", one_lock, Costs(1.1, 80_000, 1_210_000, 49, 60, 20), "skipped 0\n", is_alone=True),
-    row("waiting/15 workers for one lock", "run --workers 15", one_lock, Costs(1.3, 80_000, 1_210_000, 49, 60, 20), "skipped 0\n", is_alone=True),
-    row("waiting/a worker that begins late", "run", lambda: plan_of_nodes(2, ""), Costs(0.5, 20, 190, 6, 2, 6), "skipped 0\n", late=2_000),
-]
+def pair(name: str, words: str, other: str, records: str, most: str) -> "Pair":
+    inputs = [input_of(it) for it in (records.split() if isinstance(records, str) else [records])]
+    return Pair(name, words.split(), other.split(), inputs, float(most))
 
 
 BODIES = f"{TOP}/crates/test_hierarchical/out/test_hierarchical_tests"
@@ -465,33 +394,27 @@ def costs_of(row: Row, program: str, library: str, room: str) -> Tuple[Costs, in
 
 @dataclass(frozen=True)
 class Pair:
-    """Two questions about a record, and how many times the seconds of the second one the first may take."""
+    """Two questions about a record or about two, and how many times the seconds of the second one the first may take."""
 
-    words: str
-    other: str
-    input: Callable[[], bytes]
+    name: str
+    words: Sequence[str]
+    other: Sequence[str]
+    records: Sequence[Callable[[], bytes]]
     most: float
-    title: str = ""
-    other_input: Optional[Callable[[], bytes]] = None
-    """The record of the second question, where it is another one."""
-
-    @property
-    def name(self) -> str:
-        return self.title or f"{self.words[:40]} beside {self.other[:40]}"
 
     def ratio(self, program: str, room: str) -> float:
         """The least seconds of some runs of the first, by those of the other; they run in turn, so that both meet the same load."""
-        starts = [(self.words, self.input, f"{room}/first"), (self.other, self.other_input or self.input, f"{room}/second")]
-        for _, data, path in starts:
+        paths = [f"{room}/{number}" for number in range(len(self.records))]
+        for path, data in zip(paths, self.records):
             with open(path, "wb") as file:
                 file.write(data())
-        rounds = [[seconds_of([program, *words.split()], path) for words, _, path in starts] for _ in range(ROUNDS)]
+        starts = [(self.words, paths[0]), (self.other, paths[-1])]
+        rounds = [[seconds_of([program, *words], path) for words, path in starts] for _ in range(ROUNDS)]
         ours, theirs = map(min, zip(*rounds))
         return ours / theirs
 
 
 def seconds_of(command: Sequence[str], path: str) -> float:
-    """The seconds of processor time of an answer."""
     with open(path, "rb") as source:
         ran = subprocess.Popen(command, stdin=source, stdout=subprocess.DEVNULL, stderr=subprocess.DEVNULL)
         _, _, usage = os.wait4(ran.pid, 0)
@@ -502,44 +425,10 @@ def seconds_of(command: Sequence[str], path: str) -> float:
 ROUNDS = 7
 """How often each question of a pair is asked."""
 
-LOCKED = [
-    ("none", EVENTS),
-    ("20,000 readers of one", one_lock_read),
-    ("4,000 of sixteen tests each", many_locks),
-    ("4,000 of each of 100 tests", many_locks_of_each),
-    ("global beside 60,000 tests", one_global),
-    ("global and another above 60,000 tests", locks_above),
-    ("starts that never finish", held_and_never_finished),
-    ("a test that runs again and again", held_again_and_again),
-]
-"""Records of which `ask locks` is asked."""
-
-UNCOMPARED = [EVENTS, many_locks_of_each, locks_above]
-"""Those of which it answers `no pair`, so that an explanation counts who holds a lock."""
-
-BESIDE = [
-    Pair("ask exclusive test", "ask executions", EVENTS, 1.3),
-    *[Pair("ask locks", "ask executions", input, 1.5, f"locks, {name}, beside executions") for name, input in LOCKED],
-    *[Pair("ask explain locks", "ask locks", input, 3, f"explained locks, {name}") for name, input in LOCKED if input in UNCOMPARED],
-    Pair("ask explain loosely" + LAST_FAILS, "ask match loosely" + LAST_FAILS, EVENTS, 3),
-    Pair(f"ask explain loosely {MANY_MEMBERS}", f"ask match loosely {MANY_MEMBERS}", EVENTS, 3, "explained 2,000 members beside their match"),
-    Pair(f"ask explain loosely {MANY_TEXTS}", f"ask match loosely {MANY_TEXTS}", EVENTS, 3, "explained 2,000 members with texts beside their match"),
-    Pair("ask explain in-order" + LAST_FAILS, "ask match in-order" + LAST_FAILS, EVENTS, 3),
-    Pair("ask explain in-order" + TOO_EARLY, "ask match in-order" + TOO_EARLY, FAILING, 3),
-    Pair("ask explain exactly" + LAST_DIFFERS, "ask match exactly" + LAST_DIFFERS, fifty_skips, 3),
-    Pair("ask explain exactly" + 50 * " started", "ask match exactly" + 50 * " started", EVENTS, 3),
-    Pair("ask explain list all", "ask list all", EVENTS, 3),
-    Pair("ask explain executions", "ask executions", EVENTS, 3),
-    Pair("ask explain exclusive test", "ask exclusive test", OVERLAPPING, 3),
-    Pair("ask explain lifecycle", "ask lifecycle", a_test_still_runs, 3),
-    Pair("ask list skipped", "ask count skipped", LONG_REASON, 2),
-    Pair("ask count all", "ask count all", SHORT_STAMPS[0], 0.8, "short stamps of starts beside long ones", LONG_STAMPS[0]),
-    Pair("ask count all", "ask count all", SHORT_STAMPS[1], 0.8, "short stamps of failures beside long ones", LONG_STAMPS[1]),
-]
+TABLE = rows(__file__, globals())
 
 
 def faults_of(row: Row, costs: Costs, status: int, wrote: str) -> List[str]:
-    """What is wrong with a run of a row."""
     answered = status == row.status and wrote.startswith(row.begins)
     little = [f"memory {costs.memory}, and has to be {row.least_memory}"] if costs.memory < row.least_memory else []
     return costs.above(row.limit) + little + ([] if answered else [f"status {status}, and it writes {wrote!r}"])
@@ -560,8 +449,6 @@ def faults_of_runs(row: Row, run: Callable[[], Tuple[Costs, int, str]]) -> List[
 
 
 class WithCounts(WithLibrary):
-    """Tests for which `count.c` is compiled."""
-
     SOURCE = f"{TOP}/gate/costs/count.c"
 
     def check(self, row: Row, program: str) -> None:
@@ -583,11 +470,11 @@ class OfBodies(WithCounts):
 
 
 class OfTheProgram(WithProgram, WithCounts):
-    @parameterized(ROWS)
+    @parameterized([it for it in TABLE if isinstance(it, Row)])
     def test_costs(self, row):
         self.check(row, PROGRAM)
 
-    @parameterized(BESIDE)
+    @parameterized([it for it in TABLE if isinstance(it, Pair)])
     def test_beside(self, pair):
         ratio = math.inf
         for _ in range(MOST_RUNS):
@@ -696,8 +583,8 @@ class OfExamples(WithCounts):
         self.assertEqual((wanted, []), (", ".join(fault.split()[0] for fault in faults), list(left)))
 
     def test_ratio(self):
-        short, long = "-c pass", "-c sum(range(5_000_000))"
-        ratios = [Pair(*words, lambda: b"", 1).ratio(sys.executable, folder(self)) for words in ((long, short), (short, long))]
+        short, long = ["-c", "pass"], ["-c", "sum(range(5_000_000))"]
+        ratios = [Pair("", *words, [lambda: b""], 1).ratio(sys.executable, folder(self)) for words in ((long, short), (short, long))]
         self.assertTrue(ratios[1] < 1 < ratios[0], ratios)
 
     def test_the_largest_input(self):

@@ -43,7 +43,6 @@ def is_shown(printed: Sequence[str], shown: Sequence[str]) -> bool:
 
 
 def examples_of(document: Document) -> List[Example]:
-    """The commands of a document, in their order."""
     found: List[Example] = []
     for block in [it for it in document.blocks() if it.is_indented]:
         begun = len(found)

@@ -14,7 +14,6 @@ from documents import Document
 from tree import Tree
 
 FOLDERS = ("bench", "crates", "docs", "examples", "gate", "tools", ".ci")
-"""Folders at the top of the repository."""
 
 OTHERS = "gate/documents/other_names.txt"
 

@@ -29,7 +29,6 @@ from tables.locks import BESIDE, held
 from tables.texts import DEMO_PLAN, SMALL_REPLAY, TWO_TESTS
 
 TIME_LIMIT = 60
-"""How many seconds a run may take: far more than any needs."""
 
 KEPT_BY_RUN = 32
 """How many blocks of memory the record of the demo plan's run has, with any number of workers.
@@ -42,7 +41,6 @@ KEPT_LONG = KEPT_BY_RUN + 11
 """The same of `LONG_PLAN`, whose eight names, lock, reason and message have blocks of their own."""
 
 MOST_REQUESTS = 5_000
-"""How many requests of a kind a run makes at most."""
 
 ROUNDS = 4
 """How many rounds a sweep has at most: a unit makes few requests, and the schedule may put others before them each time."""
@@ -195,15 +193,12 @@ class Command:
     units: FrozenSet[int] = frozenset()
 
 
-OF_A_RECORD = {"memory": 29, "read": 2, "write": 1}
-
-
-def of_a_record(words: str, text: str) -> Command:
-    return Command(words, text, OF_A_RECORD)
+def of_a_record(words: str, text: str, memory: int = 29) -> Command:
+    return Command(words, text, {"memory": memory, "read": 2, "write": 1})
 
 
 def of_a_long_record(words: str, text: str) -> Command:
-    return Command(words, text, {**OF_A_RECORD, "memory": 34})
+    return of_a_record(words, text, 34)
 
 
 def of_a_run(words: str, text: str, threads: str, kept: int, units: str = "0") -> Command:
@@ -217,7 +212,6 @@ LONG_RECORD = re.sub(r"\b(e|one|two|boom|off)$", rf"\1{LONGER}", TWO_TESTS, flag
 """Three names, a message and a reason, each with memory of its own."""
 
 LONG_PLAN = re.sub(r'"(?:name|skip|message|key)":"\w+|"segment":\["\w+","\w+', rf"\g<0>{LONGER}", DEMO_PLAN)
-"""The demo plan with such texts."""
 
 LONG_LOCKS = held(f"3 W db{LONGER}, 4 R db{LONGER}", BESIDE)
 """Two tests that overlap and hold a lock, whose name has memory of its own."""
@@ -229,49 +223,37 @@ CHILD_RUNS = TWO_TESTS.replace("E|1|1|2|finish|fail|boom\n", "")
 SKIP_REPLAY = f"testkit-replay|2\nW|1\nN|T|[engine:e]|e\nE|1|0|7|skip|off{LONGER}\nS|1|t\n"
 """The first event that waits has a text of its own, which goes back where there is no memory for the list of what waits."""
 
-COMMANDS = rows(__file__, globals())
-
 SIXTEEN_LOCKS = DEMO_PLAN.replace('[{"key":"db"}]', "[" + ",".join(f'{{"key":"{key}{LONGER}"}}' for key in range(16)) + "]")
-"""The demo plan with a lock too many."""
 
-FAULTS = [
-    ("ask", TWO_TESTS),
-    ("ask count x", TWO_TESTS),
-    ("ask list x", TWO_TESTS),
-    ("ask explain lifecycle x", TWO_TESTS),
-    ("ask locks x", TWO_TESTS),
-    ("replay", b""),
-    ("run", b"{"),
-    ("run --workers 0", DEMO_PLAN),
-    ("run --workers 1", SIXTEEN_LOCKS),
-    ("walk", b""),
-]
-"""Words and an input that are refused: nothing is kept then either, as the lock keys of a plan that has too many."""
+
+def fault(words: str, text: str) -> Command:
+    """Words and an input that are refused: nothing is kept then either, as the lock keys of a plan that has too many."""
+    return Command(words, text, {"message": 1})
+
+
+COMMANDS = rows(__file__, globals())
 
 
 def sweeps_of_program() -> List[Sweep]:
-    found, program = [], os.fsencode(PROGRAM)
+    found = []
     for number, it in enumerate(COMMANDS):
         rules = {
             "memory": refused_memory_of_a_run if it.words.startswith("run") else refused_with(OUT_OF_MEMORY),
             "read": refused_with(DEVICE_FAILED),
             "write": refused_with(DEVICE_FAILED),
             "thread": refused_with(NO_THREAD),
+            "message": keeps_status,
         }
         for kind, least in it.least.items():
             units = it.units if kind == "memory" else frozenset()
             # (the room for the list of words is asked for at once, and else word by word)
             survived = int(kind == "memory")
-            command = [program, *as_words(it.words)]
-            name = f"{number + 1} {it.words}, {kind}"
-            found.append(Sweep(name, kind, command, as_bytes(it.input), rules[kind], least, units, it.kept, survived))
-    for words, text in FAULTS:
-        found.append(Sweep(f"fault of {words}, message", "message", [program, *as_words(words)], as_bytes(text), keeps_status))
+            command = [os.fsencode(PROGRAM), *as_words(it.words)]
+            found.append(Sweep(f"{number + 1} {it.words}, {kind}", kind, command, as_bytes(it.input), rules[kind], least, units, it.kept, survived))
     return found
 
 
 def names_of(program: str) -> List[str]:
-    """The tests of a built test crate."""
     listed = subprocess.run([program, "--list"], stdout=subprocess.PIPE, check=True, text=True).stdout
     return re.findall(r"[\w:]+::\w+", listed)
 
@@ -292,8 +274,6 @@ def sweeps_of_tests() -> List[Sweep]:
 
 
 class WithRefusals(WithLibrary):
-    """Tests for which `refuse.c` is compiled."""
-
     SOURCE = f"{HERE}/refuse.c"
 
     def check(self, sweep: Sweep) -> None:
@@ -342,23 +322,18 @@ def example(name: str, is_passed: bool, rule: Callable, ended: Ended, first: End
 EXAMPLES = [
     example("its answer", True, MEMORY, REFUSED),
     example("another status", False, MEMORY, replace(REFUSED, status=2)),
-    example("no end", False, MEMORY, replace(REFUSED, status=None, kept=None)),
     example("the line of another fault", False, MEMORY, replace(REFUSED, error=b"testkit: no thread\n")),
     example("output that is no prefix", False, MEMORY, replace(REFUSED, output=b"answer")),
     example("a block that it keeps", False, MEMORY, replace(REFUSED, kept=1)),
-    example("a block that the ordinary run keeps too", True, MEMORY, replace(REFUSED, kept=1), KEEPS_ONE, kept=1),
     example("no block, of which the ordinary run keeps one and may not", False, MEMORY, REFUSED, KEEPS_ONE),
     example("the ordinary answer", False, MEMORY, SURVIVED),
     example("the ordinary answer, once", True, MEMORY, SURVIVED, survived=1),
-    example("an ordinary run that fails", False, MEMORY, REFUSED, FAULT),
     example("the unit of a worker", True, OF_A_PLAN, OF_UNIT, units=frozenset({1})),
     example("a unit of another number", False, OF_A_PLAN, OF_UNIT, units=frozenset({0})),
     example("a unit where no worker was refused", False, OF_A_PLAN, replace(OF_UNIT, refused_of="first")),
     example("no line where none can be written", True, keeps_status, SILENT, FAULT),
     example("a line where none can be written", False, keeps_status, replace(SILENT, error=FAULT.error), FAULT),
     example("fewer requests than there are at least", False, MEMORY, REFUSED, least=2),
-    example("the ordinary answer twice, and may be once", False, MEMORY, SURVIVED, more=[SURVIVED], survived=1),
-    example("another answer where no request is left", False, MEMORY, REFUSED, more=[FAULT]),
     example("requests without an end", False, MEMORY, REFUSED, more=[REFUSED] * MOST_REQUESTS),
 ]
 

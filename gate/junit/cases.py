@@ -15,8 +15,6 @@ MIB = 1 << 20
 
 @dataclass
 class Case:
-    """What has to come of a case."""
-
     name: str
     facts: List[str] = field(default_factory=list)
     messages: List[str] = field(default_factory=list)
@@ -60,7 +58,6 @@ def expected() -> Dict[str, List[Case]]:
 
 
 def limits() -> List[Case]:
-    """What comes at the limits of a record."""
     engine = [HEADER, "N|C|[engine:e]|engine"]
     one_test = [*engine, "N|T|[engine:e]/[t:1]|one"]
     static = [*engine, *(f"N|T|[engine:e]/[t:{at}]|t{at}" for at in range(1, 65_536))]
@@ -103,7 +100,6 @@ def long_texts() -> List[str]:
 
 
 def many_segments() -> Case:
-    """Ids of up to 66 segments."""
     ids = list(accumulate((f"/[n:{number}]" for number in range(2, 67)), initial="[engine:e]"))
     said = [f"testkit: [replaced-id:{key}] stands for an id that no record can have: {ids[key]}" for key in (64, 65)]
     ids[64:] = ["[replaced-id:64]", "[replaced-id:65]"]
@@ -118,7 +114,6 @@ def at_limit(name: str, record: List[str], why: str = "", lifecycle: str = "") -
 
 
 def all_cases() -> List[Case]:
-    """Each case."""
     return [case for group in (*expected().values(), limits()) for case in group]
 
 

@@ -13,13 +13,10 @@ FIRST_KEYS = 65_536
 """How many keys there are of static descriptors, and of each worker's registrations."""
 
 MOST_COLUMNS = 300
-"""How much of a line is shown."""
 
 
 @dataclass(frozen=True)
 class Entry:
-    """A line of an event."""
-
     worker: int
     key: int
     stamp: int
@@ -27,7 +24,6 @@ class Entry:
 
 
 def entries(lines: Sequence[str]) -> List[Entry]:
-    """The entries among these lines."""
     found = filter(None, map(ENTRY.fullmatch, lines))
     return [Entry(int(it[1]), int(it[2]), int(it[3]), it[4]) for it in found]
 

@@ -51,7 +51,6 @@ def sample_run() -> List[str]:
 
 
 def odd_run() -> List[str]:
-    """The odd engine."""
     odd = "[engine:odd]"
     both, escapes = rf"{odd}/[both:a\pb\\c\nd]", f"{odd}/[%25%2B%5B%5D%3A%2F:%2541%2B%5Ba%5D%3Ab%2Fc]"
     statics = [rf"C|{odd}|odd \p engine", f"T|{escapes}|all escapes", f"B|{both}|both", f"T|{both}/[t:1]|below both"]
@@ -72,7 +71,6 @@ def odd_run() -> List[str]:
 
 
 def crowd_run() -> List[str]:
-    """The threads that report at once."""
     tests = {f"[engine:e]/[t:{at}]": ["start", "finish|ok"] for at in range(CROWD)}
     statics = ["N|C|[engine:e]|engine", *(f"N|B|{it}|thread {at}" for at, it in enumerate(tests))]
     reports = [(f"{test}/[d:{number}]", number) for test in tests for number in range(REPORTS)]

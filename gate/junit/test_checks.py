@@ -44,33 +44,26 @@ def of_ids(*lines):
     return lambda: records.check_lines(records.by_id(lines), records.by_id(BY_ID))
 
 
-def of_workers(workers, last=0, begin=1):
-    """Threads that have these workers while they all run, and one after the first has ended, there or at another worker."""
+def of_workers(workers, begin=1):
+    """Threads that have these workers while they all run, and one after the first has ended."""
     lines = [f"E|1|{65_536 + at}|0|dynamic|B|[e:e]/[d:{at}]|d" for at in range(len(workers) + 1)]
     lines += [f"E|{worker}|{65_536 + at}|0|start" for at, worker in enumerate(workers)]
-    lines += [f"E|{last or workers[0]}|65536|0|finish|ok", f"E|{begin}|{65_536 + len(workers)}|0|start"]
+    lines += [f"E|{workers[0]}|65536|0|finish|ok", f"E|{begin}|{65_536 + len(workers)}|0|start"]
     return lambda: samples.check_workers(lines)
 
 
-def of_crowd(workers=15, first=0):
-    """A record of threads that call in turn and have so many workers, whose first stamp is this one."""
-    def compare():
-        statics = [f"N|B|[engine:e]/[t:{it}]|thread {it}" for it in range(samples.CROWD)]
-        lines, registered = [records.HEADER, "N|C|[engine:e]|engine", *statics], [0] * 16
-        lines += [f"E|{it % workers + 1}|{it + 1}|{it or first}|start" for it in range(samples.CROWD)]
-        for call in range(samples.REPORTS * samples.CROWD):
-            number, thread = divmod(call, samples.CROWD)
-            worker = thread % workers + 1
-            entry = f"E|{worker}|{65_536 * worker + registered[worker]}"
-            registered[worker] += 1
-            stamp = samples.CROWD + 2 * call
-            lines.append(f"{entry}|{stamp}|dynamic|T|[engine:e]/[t:{thread}]/[d:{number}]|report {number}")
-            lines.append(f"{entry}|{stamp + 1}|report|number|{number}")
-        stamp = samples.CROWD * (1 + 2 * samples.REPORTS)
-        lines += [f"E|{it % workers + 1}|{it + 1}|{stamp + it}|finish|ok" for it in range(samples.CROWD)]
-        samples.check_crowd(lines, [samples.CROWDED])
-
-    return compare
+def of_crowd(first=0):
+    """A record of threads that call in turn, whose first stamp is this one."""
+    statics = [f"N|B|[engine:e]/[t:{it}]|thread {it}" for it in range(samples.CROWD)]
+    workers = [it % 15 + 1 for it in range(samples.CROWD)]
+    tails = [(worker, it + 1, "start") for it, worker in enumerate(workers)]
+    for number in range(samples.REPORTS):
+        for it, worker in enumerate(workers):
+            key = 65_536 * worker + number * 2 + it // 15
+            tails += [(worker, key, f"dynamic|T|[engine:e]/[t:{it}]/[d:{number}]|report {number}"), (worker, key, f"report|number|{number}")]
+    tails += [(worker, it + 1, "finish|ok") for it, worker in enumerate(workers)]
+    events = [f"E|{worker}|{key}|{stamp or first}|{tail}" for stamp, (worker, key, tail) in enumerate(tails)]
+    return lambda: samples.check_crowd([records.HEADER, "N|C|[engine:e]|engine", *statics, *events], [samples.CROWDED])
 
 
 WITH_LOCKS = [records.HEADER_WITH_LOCKS, *STARTED[1:2], "N|T|[engine:e]/[t:1]|one", "L|0|R|b", "L|1|W|a", "L|1|R|b", *STARTED[2:]]
@@ -98,26 +91,15 @@ RIGHT = [
 ]
 WRONG = [
     ("another line", of_record("|ok", "|fail")),
-    ("the last line feed is missing", of_record("|ok\n", "|ok")),
     ("a stamp that falls", of_record("|700000|", "|499999|")),
-    ("a stamp before the run", of_record("|500000|", "|5|")),
     ("a stamp after the end", of_record("|700000|", "|800001|")),
-    ("times in place of positions", of_record(wanted=POSITIONS)),
     ("another record", of_case(record=TEXT.replace("|ok", "|fail"))),
-    ("a record that isn't wanted", of_case(**{"2.record": TEXT})),
     ("another message", of_case(messages="testkit: FOLDER/b\ntestkit: one that goes on\n")),
-    ("another fact", of_case(facts=["whole false", FACTS[1]])),
-    ("no end", of_case(facts=FACTS[:1])),
     ("events of one id in another order", of_ids(BY_ID[0], BY_ID[4], *BY_ID[2:4], BY_ID[1])),
-    ("a key that another worker registers", of_ids(*(line.replace("131072", "196608") for line in BY_ID))),
     ("a worker that nothing runs at is left out", of_workers([1, 2, 3], begin=4)),
     ("workers are shared while one is free", of_workers([1, 2, 2])),
-    ("a thread of two workers", of_workers([1, 2, 3], 2)),
     ("a crowd in which a stamp stands twice", of_crowd(first=1)),
-    ("a crowd of fourteen workers", of_crowd(14)),
     ("a lock is missing", of_locks(*WITH_LOCKS[3:5])),
-    ("another mode", of_locks("L|0|W|b", *WITH_LOCKS[4:6])),
-    ("a lock twice", of_locks(WITH_LOCKS[3], *WITH_LOCKS[3:6])),
     ("locks in another order", of_locks(WITH_LOCKS[3], WITH_LOCKS[5], WITH_LOCKS[4])),
     ("a lock among the events", of_locks(WITH_LOCKS[3], STARTED[2], *WITH_LOCKS[4:6])),
     ("a pause in milliseconds", lambda: samples.check_pause([0, 0, 100, 100])),

@@ -34,8 +34,6 @@ LIFECYCLES = {"sample": "yes", "odd": "yes", "halt": "no end 0", "exit": "no end
 
 
 class WithClasses(unittest.TestCase):
-    """Tests that have the classes compiled, and a folder for what they leave."""
-
     @classmethod
     def setUpClass(cls):
         super().setUpClass()
@@ -50,7 +48,6 @@ class WithClasses(unittest.TestCase):
         super().tearDownClass()
 
     def lines(self, name):
-        """The lines of a file that was left."""
         text = cases.read(f"{self.out}/{name}")
         self.assertTrue(text.endswith("\n"), f"the last line of {name} has no end")
         return text.split("\n")[:-1]
@@ -58,8 +55,6 @@ class WithClasses(unittest.TestCase):
 
 @java.needs_junit
 class OfCases(WithClasses):
-    """The cases of ListenerCases, LockCases and KitCases."""
-
     @classmethod
     def setUpClass(cls):
         super().setUpClass()

@@ -96,6 +96,8 @@ class OfSurefire(unittest.TestCase):
 
     @parameterized(SETTINGS)
     def test_build(self, setting):
+        if fixtures.IS_QUICK and setting is not SETTINGS[0]:
+            self.skipTest(f"{fixtures.NOT_QUICK}: {setting.name}")
         surefire = version_of("org/apache/maven/plugins/maven-surefire-plugin")
         versions = {
             "jupiter": version_of("org/junit/jupiter/junit-jupiter-engine"),

@@ -15,8 +15,6 @@ PROGRAM, JAR, PROVED_WITH = "bin/testkit-x86_64-linux", "bin/testkit-listener.ja
 
 
 class Keeper(Repository):
-    """A repository in which `tools/keep_program` can be called."""
-
     def __init__(self, test: unittest.TestCase) -> None:
         super().__init__(test)
         for name in TOOLS:
@@ -36,7 +34,6 @@ class Keeper(Repository):
             return file.read()
 
     def made(self):
-        """The files of bin/."""
         return {name: self.read(f"bin/{name}") for name in os.listdir(self.path("bin"))} if os.path.isdir(self.path("bin")) else {}
 
 

@@ -128,14 +128,11 @@ class Repository:
         return run(["/bin/sh", "-c", f'exec "$@" {streams}', "sh", self.path("testkit"), *words], input, env=environment, **how)
 
     def given(self) -> bytes:
-        """What `rt` read."""
         with open(self.path("input"), "rb") as file:
             return file.read()
 
 
 class Calls(unittest.TestCase):
-    """Calls of the launcher of a repository, `it`."""
-
     def setUp(self) -> None:
         self.it = Repository(self)
 
@@ -417,7 +414,6 @@ class OfProgram(WithProgram):
                     self.assertIn(ran.error.decode(), (head, head + Usage.PAGE))
 
     def test_questions(self) -> None:
-        """Each question of the page is one."""
         questions = re.findall(r"^  testkit ask (\w+)", Usage.PAGE, re.MULTILINE)
         self.assertGreaterEqual(len(questions), 9)
         for name in questions:

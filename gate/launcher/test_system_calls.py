@@ -7,8 +7,8 @@ library's loader opens the library before it begins, and the library may look ho
 import re
 import shutil
 import unittest
-from dataclasses import dataclass
-from typing import List, Sequence
+from operator import itemgetter
+from typing import List
 
 from fixtures import PROGRAM, TOP, WithProgram, folder, parameterized, run
 
@@ -36,34 +36,26 @@ def others(trace: str) -> List[str]:
     return [it for it in calls[1:] if not ALLOWED.fullmatch(it)]
 
 
-@dataclass(frozen=True)
-class Call:
-    """A call of the program, and what it answers: its status, and how its output begins."""
-
-    words: Sequence[str]
-    input: str
-    status: int
-    output: bytes
-
-
 CALLS = [
-    Call(["ask", "count", "all"], "examples/two_tests.record", 0, b"5\n"),
-    Call(["ask", "explain", "lifecycle"], "examples/broken.record", 1, b"no 2 child-running\n"),
-    Call(["replay"], "examples/small.replay", 0, b"testkit-record|2\n"),
-    Call(["run", "--workers", "15"], "examples/demo.plan", 0, b"skipped 1\n"),
-    Call(["run"], "examples/small.replay", 2, b""),
-    Call(["--help"], "examples/small.replay", 2, b""),
+    ("ask count all", "examples/two_tests.record", 0, b"5\n"),
+    ("ask explain lifecycle", "examples/broken.record", 1, b"no 2 child-running\n"),
+    ("replay", "examples/small.replay", 0, b"testkit-record|2\n"),
+    ("run --workers 15", "examples/demo.plan", 0, b"skipped 1\n"),
+    ("run", "examples/small.replay", 2, b""),
+    ("--help", "examples/small.replay", 2, b""),
 ]
+"""Words, an input, the status, and how the output begins."""
 
 
 @unittest.skipUnless(CAN_TRACE, "no strace")
 class Calls(WithProgram):
-    @parameterized(CALLS, name=lambda row: " ".join(row.words))
-    def test_program(self, row: Call) -> None:
+    @parameterized(CALLS, name=itemgetter(0))
+    def test_program(self, row) -> None:
+        words, name, status, output = row
         trace = f"{folder(self)}/trace"
-        with open(f"{TOP}/{row.input}", "rb") as file:
-            ran = run([*STRACE, trace, PROGRAM, *row.words], file.read())
-        self.assertEqual((ran.status, ran.output[: len(row.output)]), (row.status, row.output), ran)
+        with open(f"{TOP}/{name}", "rb") as file:
+            ran = run([*STRACE, trace, PROGRAM, *words.split()], file.read())
+        self.assertEqual((ran.status, ran.output[: len(output)]), (status, output), ran)
         with open(trace, encoding="utf-8", errors="replace") as file:
             self.assertEqual(others(file.read()), [])
 

@@ -11,7 +11,6 @@ PARTS = (".gitignore", "LICENSE", "VERSION", "docs", "examples", "tools")
 """What is copied of the work tree."""
 
 MOMENT = 1_767_323_044
-"""The time of the commit."""
 
 BUILT = "crates/testkit/out/testkit"
 RUN = "crates/testkit/out/checked"

@@ -265,8 +265,6 @@ REFUSED = [
 
 @needs("git")
 class Bytes(unittest.TestCase):
-    """The same commit gives the same bytes."""
-
     @parameterized(AGAIN, name=lambda row: row[0])
     def test_again(self, row):
         _, change, environment = row
@@ -313,7 +311,6 @@ class Refusals(unittest.TestCase):
         self.assertEqual((ran.status, ran.error.replace(NO_JAR, b"").count(b"\n")), (70, 1), ran)
 
     def test_no_jdk(self):
-        """Without a JDK there are packages, and no jar."""
         it = Repository(folder(self))
         ran = it.package(PATH=without_jdk(self))
         with tarfile.open(it.path(f"out/{TAR}")) as files:
@@ -331,7 +328,6 @@ class Refusals(unittest.TestCase):
 
 class ManPage(unittest.TestCase):
     TEXT = re.sub(r"\\f[BIR]", "", read(f"{TOP}/docs/testkit.1").decode().replace("\\-", "-"))
-    """The man page without its marks."""
 
     def test_words(self):
         """It has each command that README.md has, and each word of a question."""

@@ -10,6 +10,7 @@ import headline
 import memory
 from facade import unnamed_words, unused_names
 from reach import reach_faults
+from restated import restated
 from sources import sources_of
 from tree import Tree
 
@@ -23,6 +24,8 @@ class Limits:
     """Public functions without a clause, by file and name."""
     fewest_edits: int = 0
     fewest_tests: int = 0
+    most_restated: int = 0
+    """How many statements may be those of two lemmas."""
 
 
 Rule = Callable[[], List[str]]
@@ -45,6 +48,7 @@ def rules_of(tree: Tree, limits: Limits) -> Dict[str, Rule]:
         "no code is unsafe or foreign": lambda: files.unsafe(sources),
         "lines of clauses and definitions can be read": lambda: files.long_lines(tree, sources),
         "specs/steps has what no public contract reaches, and nothing else": lambda: reach_faults(tree),
+        "no more lemmas say the same than did": lambda: restated(tree, limits.most_restated),
         "each word of the headline is read": lambda: headline.unread_words(tree, sources),
         "HANDLES is unchanged": lambda: [] if tree.text("HANDLES") == limits.handles else [f"HANDLES differs from {limits.handles!r}"],
     }

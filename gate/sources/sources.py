@@ -62,7 +62,6 @@ class Source:
         return found
 
     def functions(self) -> Iterator[Function]:
-        """The public functions."""
         code, type_name = "\n".join(self.code), ""
         for found in ITEM.finditer(code):
             new_type, indent, name, receiver = found.groups()
@@ -76,5 +75,4 @@ class Source:
 
 
 def sources_of(tree: Tree) -> List[Source]:
-    """The files of the crates' src."""
     return [Source(path, tree.text(path)) for path in tree.files if re.fullmatch(r"crates/\w+/src/.*\.rt", path)]

@@ -18,6 +18,7 @@ LIMITS = Limits(
     ],
     fewest_edits=139,
     fewest_tests=219,
+    most_restated=26,
 )
 
 

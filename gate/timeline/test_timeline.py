@@ -138,7 +138,6 @@ class Page(WithProgram):
                 self.assertEqual((ran.status, ran.output, ran.error.count(b"\n")), (70, b"", 1), ran)
 
     def data(self, drawn):
-        """The data of a page that was drawn."""
         page = drawn.output.decode("ascii")
         return json.loads(re.search(r'<script type="application/json" id="data">(.*?)</script>', page, re.DOTALL)[1])
 
@@ -148,7 +147,6 @@ class Page(WithProgram):
         self.assertEqual(look(self.data(self.drawn(record, *words))), wanted)
 
     def files(self, *records):
-        """Files with these records."""
         at = folder(self)
         for number, record in enumerate(records):
             write(f"{at}/{number}.record", record)

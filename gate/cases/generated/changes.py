@@ -1,5 +1,6 @@
 """Texts of all kinds with a byte changed, dropped or doubled, and texts made of loose parts."""
 
+import re
 from typing import List, Sequence, Tuple
 
 import form
@@ -35,24 +36,14 @@ def change(numbers: Numbers, text: bytes) -> bytes:
 
 def question(numbers: Numbers) -> List[str]:
     """Any question, so that each of them is asked of faulty records."""
-    questions = [
-        ["stats"],
-        ["stats", "started=1", "failed=1"],
-        ["explain", "stats", numbers.one_of(form.SELECTIONS), "started=1", "failed=1"],
-        ["executions", numbers.one_of(form.SELECTIONS)],
-        ["count", numbers.one_of(form.SELECTIONS)],
-        ["executions"],
-        ["lifecycle"],
-        ["locks"],
-        ["explain", "locks"],
-        ["report"],
-        ["exclusive", condition_text(numbers, 1), condition_text(numbers, 1)],
-        ["list", numbers.one_of(form.SELECTIONS), condition_text(numbers, 1)],
-        ["match", "loosely", condition_text(numbers, 2)],
-        ["match", "exactly", condition_text(numbers, 1)],
-        ["match", "in-order", condition_text(numbers, 1), condition_text(numbers, 1)],
-    ]
-    return ["ask", *numbers.one_of(questions)]
+    texts = """
+stats; stats started=1 failed=1; explain stats SELECTION started=1 failed=1; executions SELECTION; count SELECTION; executions; lifecycle
+locks; explain locks; report; exclusive CONDITION CONDITION; list SELECTION CONDITION; match loosely CONDITION; match exactly CONDITION
+match in-order CONDITION CONDITION
+"""
+    made = {"SELECTION": lambda: numbers.one_of(form.SELECTIONS), "CONDITION": lambda: condition_text(numbers, 1 + numbers.below(2))}
+    words = numbers.one_of(re.split("; |\n", texts.strip())).split()
+    return ["ask", *(made[word]() if word in made else word for word in words)]
 
 
 def changed_record(numbers: Numbers) -> Start:
@@ -78,7 +69,6 @@ PARTS = "all( any( not( test started failed failed( id( name( segment( message( 
 
 
 def loose_word(numbers: Numbers) -> str:
-    """A word made of parts of conditions."""
     return "".join(numbers.one_of(PARTS) for _ in range(1 + numbers.below(8)))
 
 
@@ -92,7 +82,6 @@ TAIL_FIELDS = ["start", "finish", "skip", "report", "dynamic", "ok", "fail", "ab
 
 
 def loose_line(numbers: Numbers) -> Start:
-    """A record with one line made of parts of lines."""
     fields = [numbers.one_of(choice[: 1 + numbers.below(len(choice))]) for choice in FIELDS]
     fields += [numbers.one_of(TAIL_FIELDS[: 5 + 11 * numbers.below(2)])] + numbers.some_of(TAIL_FIELDS, 3)
     text = HEADER + "".join(line + "\n" for line in NODES) + "|".join(fields) + "\n"

@@ -1,55 +1,18 @@
 """Generated conditions."""
 
 from generated.numbers import Numbers
-from model.conditions import Condition, write_condition
+from model.conditions import Condition, read_condition, write_condition
 
 ATOMS = [
-    ("test",),
-    ("container",),
-    ("engine",),
-    ("id", "e]"),
-    ("id", "[engine:"),
-    ("id", "]/[t:"),
-    ("id", "%2F"),
-    ("id", "[engine:e]/[class:A]/[t:m]/[d:"),
-    ("segment", ("t", "m")),
-    ("segment", ("class", "A")),
-    ("segment", ("t", "a/b")),
-    ("segment", ("engine", "x")),
-    ("name", ""),
-    ("name", "one"),
-    ("name", "a(b),c%"),
-    ("kind", "dynamic"),
-    ("kind", "skip"),
-    ("kind", "start"),
-    ("kind", "finish"),
-    ("kind", "report"),
-    ("skipped", ""),
-    ("skipped", "off"),
-    ("skipped", "spät"),
-    ("started",),
-    ("succeeded",),
-    ("failed",),
-    ("aborted",),
-    ("failed", ""),
-    ("failed", "boom"),
-    ("failed", "booms"),
-    ("aborted", "boom"),
-    ("aborted", "a(b),%|c\n"),
-    ("message", ""),
-    ("message", "oom"),
-    ("message", "(b),"),
-    ("entry", ()),
-    ("entry", (("k", "v"),)),
-    ("entry", (("k", "v"), ("k", "v"))),
-    ("entry", (("k", "v"), ("l", "w"))),
-    ("entry", (("l", "w"), ("k", "v"))),
-    ("entry", (("m", ""), ("l", "w"), ("k", "v"))),
-    ("entry", (("a(", "b),%"),)),
-    ("entry", (("k", "w"),)),
-    ("kind", "file"),
-    ("file", "out/log.txt"),
-    ("file", "a(b),%"),
+    read_condition(text.replace("␊", "\n"))
+    for text in """
+test container engine id(e]) id([engine:) id(]/[t:) id(%252F) id([engine:e]/[class:A]/[t:m]/[d:)
+segment(t,m) segment(class,A) segment(t,a/b) segment(engine,x) name() name(one) name(a%28b%29%2Cc%25)
+kind(dynamic) kind(skip) kind(start) kind(finish) kind(report) skipped() skipped(off) skipped(spät)
+started succeeded failed aborted failed() failed(boom) failed(booms) aborted(boom) aborted(a%28b%29%2C%25|c␊)
+message() message(oom) message(%28b%29%2C) entry() entry(k,v) entry(k,v,k,v) entry(k,v,l,w) entry(l,w,k,v)
+entry(m,,l,w,k,v) entry(a%28,b%29%2C%25) entry(k,w) kind(file) file(out/log.txt) file(a%28b%29%2C%25)
+""".split()
 ]
 """Every form of an atom, most of them with several texts."""
 

@@ -3,7 +3,7 @@
 from typing import List, Set, Tuple
 
 from generated.conditions import condition_text
-from generated.numbers import Cases, Numbers, each_is_met, series
+from generated.numbers import Cases, Numbers, met_series
 from tables.building import HEADER
 
 NODES = ["N|C|[engine:e]|e"] + [f"N|T|[engine:e]/[t:{key}]|t{key}" for key in range(1, 5)]
@@ -46,6 +46,5 @@ def asked(numbers: Numbers, *question: str) -> Tuple[List[str], bytes]:
 
 
 def cases() -> Cases:
-    made = series("generated exclusive", Numbers(57), 3_000, lambda numbers: asked(numbers, "exclusive"))
-    met = [case.output.decode()[:-1] for case in made]
-    return [*made, each_is_met("generated exclusive", met, ANSWERS, 5)]
+    kinds_of = lambda case: [case.output.decode()[:-1]]
+    return met_series("generated exclusive", 57, 3_000, lambda numbers: asked(numbers, "exclusive"), kinds_of, ANSWERS, 5)

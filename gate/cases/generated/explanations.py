@@ -5,7 +5,7 @@ from typing import Callable, List, Sequence, Tuple
 import form
 from generated import exclusives, lifecycles, locks
 from generated.conditions import ATOMS, condition_text
-from generated.numbers import Cases, Numbers, each_is_met, modelled, series
+from generated.numbers import Cases, Numbers, met_series, modelled, parts_of
 from generated.questions import conditions_in_turn, conditions_of_events, events_of, fitting, selection
 from generated.recordings import record_text, short_record
 from model.conditions import write_condition
@@ -58,17 +58,13 @@ def form_of(line: str) -> str:
 
 
 def matches(mode: str, seed: int, count: int, most: int, words_for: Words, wanted: Sequence[str]) -> Cases:
-    """Matches of records of up to `most` events."""
-
 
     def asked(numbers: Numbers) -> Tuple[List[str], bytes]:
         text = short_record(numbers) if numbers.below(2) else record_text(numbers, numbers.below(most))
         selected = selection(numbers)
         return ["ask", "explain", *selected, mode, *words_for(numbers, events_of(text, selected))], text
 
-    cases = series(f"generated explanation, {mode}", Numbers(seed), count, asked)
-    met = [form for case in cases for form in set(forms_of(case.output.decode()))]
-    return cases + [each_is_met(f"generated explanation, {mode}", met, wanted, 10)]
+    return met_series(f"generated explanation, {mode}", seed, count, asked, lambda case: set(forms_of(case.output.decode())), wanted, 10)
 
 
 TAILS = ["start", "start", "skip|off", "finish|ok", "finish|fail|boom", "report|k|v", "file|out/log.txt"]
@@ -108,35 +104,19 @@ SENTENCES = [
 
 
 def broken(numbers: Numbers) -> Tuple[List[str], bytes]:
-    """A record that mostly breaks the lifecycle."""
     lines = loose_lines(numbers) if numbers.below(3) == 0 else lifecycles.spoiled(numbers, lifecycles.kept_lines(numbers))
     return ["ask", "explain", "lifecycle"], lifecycles.text_of(lines)
 
 
-def of_lifecycles() -> Cases:
-    cases = series("generated explanation, lifecycle", Numbers(61), 700, broken)
-    met = [part for case in cases for part in SENTENCES if part in case.output.decode()]
-    return cases + [each_is_met("generated explanation, lifecycle", met, SENTENCES, 3)]
+OVERLAPS = ["yes", "no pair", "overlap\n", "the first as a writer", "the second as a writer", "both as writers"]
+LOCKED = ["yes", "no pair\n0 ", "no pair\n2 ", "overlap, over global\n", "overlap, over db\n", "overlap, over a\\pb\n"]
 
 
-def of_exclusives() -> Cases:
-    """Executions of writers and readers, of which some overlap."""
-    cases = series("generated explanation, exclusive", Numbers(62), 300, lambda numbers: exclusives.asked(numbers, "explain", "exclusive"))
-    shown = ["yes", "no pair", "overlap\n", "the first as a writer", "the second as a writer", "both as writers"]
-    met = [part for case in cases for part in shown if part in case.output.decode()]
-    return cases + [each_is_met("generated explanation, exclusive", met, shown, 3)]
-
-
-def of_locks() -> Cases:
-    """Executions that hold locks, of which some overlap."""
-    cases = series("generated explanation, locks", Numbers(68), 300, lambda numbers: locks.asked(numbers, "explain", "locks"))
-    shown = ["yes", "no pair\n0 ", "no pair\n2 ", "overlap, over global\n", "overlap, over db\n", "overlap, over a\\pb\n"]
-    met = [part for case in cases for part in shown if part in case.output.decode()]
-    return cases + [each_is_met("generated explanation, locks", met, shown, 3)]
+def explained(name: str, seed: int, count: int, make: Callable, shown: Sequence[str]) -> Cases:
+    return met_series(f"generated explanation, {name}", seed, count, make, parts_of(shown), shown, 3)
 
 
 def of_lists() -> Cases:
-    """Lists of events, and of executions."""
     numbers = Numbers(63)
     cases: Cases = []
     for number in range(150):
@@ -153,8 +133,8 @@ def cases() -> Cases:
         *matches("in-order", 58, 300, 13, in_turn, [*shown, "too early", *some]),
         *matches("exactly", 59, 300, 9, of_events, [*shown, "wrong-count", "nearest", some[1]]),
         *matches("loosely", 60, 300, 60, of_some, [*shown, *some]),
-        *of_lifecycles(),
-        *of_exclusives(),
-        *of_locks(),
+        *explained("lifecycle", 61, 700, broken, SENTENCES),
+        *explained("exclusive", 62, 300, lambda numbers: exclusives.asked(numbers, "explain", "exclusive"), OVERLAPS),
+        *explained("locks", 68, 300, lambda numbers: locks.asked(numbers, "explain", "locks"), LOCKED),
         *of_lists(),
     ]

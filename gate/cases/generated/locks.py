@@ -4,7 +4,7 @@ from typing import List, Tuple
 
 import form
 from generated.exclusives import tails
-from generated.numbers import Cases, Numbers, each_is_met, series
+from generated.numbers import Cases, Numbers, met_series
 
 NAMES = ["db", "net", "global", "a\\pb", "é", "Z"]
 TREES = [
@@ -60,6 +60,5 @@ def asked(numbers: Numbers, *question: str) -> Tuple[List[str], bytes]:
 
 
 def cases() -> Cases:
-    made = series("generated locks", Numbers(67), 2_000, lambda numbers: asked(numbers, "locks"))
-    met = [case.output.decode()[:-1] or case.error.decode().split()[-1] for case in made]
-    return [*made, each_is_met("generated locks", met, [*ANSWERS, "bad"], 5)]
+    kinds_of = lambda case: [case.output.decode()[:-1] or case.error.decode().split()[-1]]
+    return met_series("generated locks", 67, 2_000, lambda numbers: asked(numbers, "locks"), kinds_of, [*ANSWERS, "bad"], 5)

@@ -47,3 +47,14 @@ def each_is_met(name: str, met: Sequence[str], wanted: Sequence[str], least: int
     counts = Counter(met)
     rare = [answer for answer in wanted if counts[answer] < least]
     return Check(f"{name}/each answer is met {least} times", rare, [])
+
+
+def met_series(name: str, seed: int, count: int, make: Callable, kinds_of: Callable, wanted: Sequence[str], least: int) -> Cases:
+    """A series of which each of the `wanted` answers is met; `kinds_of` says which of them a case has."""
+    cases = series(name, Numbers(seed), count, make)
+    return [*cases, each_is_met(name, [kind for case in cases for kind in kinds_of(case)], wanted, least)]
+
+
+def parts_of(wanted: Sequence[str]) -> Callable[[Case], Sequence[str]]:
+    """Which of some texts stand in the output of a case."""
+    return lambda case: [part for part in wanted if part in case.output.decode()]

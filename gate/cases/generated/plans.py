@@ -5,7 +5,7 @@ import json
 from typing import Dict, List, Tuple
 
 import form
-from generated.numbers import Cases, Numbers, each_is_met, modelled, series
+from generated.numbers import Cases, Numbers, each_is_met, met_series, modelled
 from harness import Case
 from recorded import RecordedRun
 
@@ -155,13 +155,11 @@ def runs_with_locks() -> Cases:
 
 
 def spoiled(numbers: Numbers) -> Tuple[List[str], bytes]:
-    """A plan with one value spoiled."""
     value = plan(numbers)
     spoil(numbers, value)
     return ["run", "--workers=2"], plan_text(numbers, value)
 
 
 def cases() -> Cases:
-    made = series("generated spoiled plan", Numbers(32), 300, spoiled)
-    met = [kind_of_outcome(case) for case in made]
-    return [*runs(), *runs_with_locks(), *made, each_is_met("generated spoiled plan", met, ["done", "plan member"], 20)]
+    made = met_series("generated spoiled plan", 32, 300, spoiled, lambda case: [kind_of_outcome(case)], ["done", "plan member"], 20)
+    return [*runs(), *runs_with_locks(), *made]

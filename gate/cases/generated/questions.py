@@ -5,7 +5,7 @@ from typing import List, Tuple
 
 import form
 from generated.conditions import ATOMS, brackets_of, condition
-from generated.numbers import Cases, Numbers, each_is_met, modelled, series
+from generated.numbers import Cases, Numbers, each_is_met, met_series, modelled
 from generated.recordings import record_text, short_record
 from harness import Case, Check
 from model.conditions import Condition, write_condition
@@ -99,7 +99,6 @@ def one_of_two() -> Cases:
 
 
 def deep_conditions() -> Cases:
-    """Conditions of up to five brackets within one another, of 130 events."""
     numbers = Numbers(3)
     text = record_text(numbers, 130)
     record = read_record(text)
@@ -147,9 +146,7 @@ def matches(mode: str, seed: int, conditions_for, answers: List[str]) -> Cases:
         text, selected = short_record(numbers), selection(numbers)
         return ["ask", "match", *selected, mode, *conditions_for(numbers, events_of(text, selected))], text
 
-    cases = series(f"generated {mode}", Numbers(seed), 300, asked)
-    met = [kind_of_answer(case.output.decode()) for case in cases]
-    return cases + [each_is_met(f"generated {mode}", met, answers, 4)]
+    return met_series(f"generated {mode}", seed, 300, asked, lambda case: [kind_of_answer(case.output.decode())], answers, 4)
 
 
 def kind_of_answer(output: str) -> str:
@@ -172,7 +169,6 @@ def lists() -> Cases:
 
 
 def executions() -> Cases:
-    """Lists of executions, of few events and of a hundred."""
     numbers = Numbers(8)
     texts = [short_record(numbers) for _ in range(300)]
     texts += [record_text(numbers, 100, nodes) for nodes in range(1, 7) for _ in range(4)]
@@ -183,7 +179,6 @@ def executions() -> Cases:
 
 
 def reports() -> Cases:
-    """Reports of records of few events and of a hundred."""
     numbers = Numbers(52)
     texts = [short_record(numbers) for _ in range(100)] + [record_text(numbers, 100) for _ in range(20)]
     return [modelled(f"generated report/{number}", ["ask", "report"], text) for number, text in enumerate(texts)]

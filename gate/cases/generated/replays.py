@@ -3,7 +3,7 @@
 from typing import List
 
 import form
-from generated.numbers import Cases, Numbers, each_is_met, series
+from generated.numbers import Cases, Numbers, met_series
 from generated.recordings import NAMES, NODES, PARENTS, TAILS
 from harness import Case
 from tables.building import REPLAY_HEADER
@@ -59,6 +59,6 @@ def kind_of_outcome(case: Case) -> str:
 
 
 def cases() -> Cases:
-    made = series("generated replay", Numbers(21), 300, lambda numbers: (["replay"], replay_text(numbers)))
     outcomes = ["some", "none", "comes after the end mark", "has an unknown key", "is unlawful"]
-    return [*made, each_is_met("generated replay", [kind_of_outcome(case) for case in made], outcomes, 5)]
+    asked = lambda numbers: (["replay"], replay_text(numbers))
+    return met_series("generated replay", 21, 300, asked, lambda case: [kind_of_outcome(case)], outcomes, 5)

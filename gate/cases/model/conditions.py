@@ -3,21 +3,18 @@
 A condition is a tuple: its word, and after it its text, its two texts, its pairs or its members.
 """
 
-from typing import List, Optional, Tuple
+from typing import Callable, List, Optional, Tuple
 
 import form
 from model.records import STATUSES, Descriptor, Event
 from model.texts import write_id
 
 Condition = tuple
-Pairs = Tuple[Tuple[str, str], ...]
 
 KINDS = ("dynamic", "skip", "start", "finish", "report", "file")
 PLAIN_WORDS = ("test", "container", "engine", "started", "succeeded", "failed", "aborted")
-"""The atoms of one word."""
 
 TEXT_WORDS = ("id", "name", "skipped", "failed", "aborted", "message", "file")
-"""The atoms with a text."""
 
 GROUP_WORDS = ("all", "any", "not")
 OPENING_WORDS = TEXT_WORDS + ("kind", "entry", "segment") + GROUP_WORDS
@@ -34,26 +31,19 @@ class Deep(Exception):
 
 
 def write_text(text: str) -> str:
-    """A text inside of a condition."""
     return "".join(TEXT_ESCAPES.get(character, character) for character in text)
 
 
 def write_condition(condition: Condition) -> str:
-    """The text of a condition."""
-    word = condition[0]
-    if len(condition) == 1:
+    word, *more = condition
+    if not more:
         return word
-    if word == "kind":
-        return f"kind({condition[1]})"
     if word in ("all", "any"):
-        return word + "(" + ",".join(write_condition(member) for member in condition[1]) + ")"
-    if word == "not":
-        return "not(" + write_condition(condition[1]) + ")"
-    if word == "entry":
-        return "entry(" + ",".join(write_text(text) for pair in condition[1] for text in pair) + ")"
-    if word == "segment":
-        return "segment(" + ",".join(map(write_text, condition[1])) + ")"
-    return word + "(" + write_text(condition[1]) + ")"
+        return f"{word}({','.join(map(write_condition, more[0]))})"
+    if word in ("not", "kind"):
+        return f"{word}({more[0] if word == 'kind' else write_condition(more[0])})"
+    texts = more[0] if word == "segment" else [text for pair in more[0] for text in pair] if word == "entry" else more
+    return f"{word}({','.join(map(write_text, texts))})"
 
 
 def read_condition(text: str) -> Condition:
@@ -102,33 +92,28 @@ class Reader:
         if not word.endswith("("):
             return (word,)
         word = word[:-1]
-        if word in GROUP_WORDS:
-            return self.group(word, open_brackets + 1)
-        if word == "kind":
-            return ("kind", self.take_one_of([kind + ")" for kind in KINDS])[:-1])
-        if word == "entry":
-            return ("entry", self.pairs())
-        if word == "segment":
-            return ("segment", self.two_texts())
-        text = self.text()
-        self.take_one_of([")"])
-        return (word, text)
-
-    def group(self, word: str, open_brackets: int) -> Condition:
-        if open_brackets > form.MAX_BRACKETS:
+        if word in GROUP_WORDS and open_brackets == form.MAX_BRACKETS:
             raise Deep()
-        if word == "not":
-            member = self.condition(open_brackets)
-            self.take_one_of([")"])
-            return ("not", member)
-        members: List[Condition] = []
+        if word in ("all", "any"):
+            return (word, self.items(lambda: self.condition(open_brackets + 1)))
+        if word == "entry":
+            return (word, self.items(self.two_texts))
+        if word == "kind":
+            return (word, self.take_one_of([kind + ")" for kind in KINDS])[:-1])
+        argument = self.condition(open_brackets + 1) if word == "not" else self.two_texts() if word == "segment" else self.text()
+        self.take_one_of([")"])
+        return (word, argument)
+
+    def items(self, take: Callable[[], object]) -> tuple:
+        """Takes items with commas between them, and the bracket after them."""
+        found: List[object] = []
         if self.sees(")"):
             self.at += 1
-            return (word, tuple(members))
+            return ()
         while True:
-            members.append(self.condition(open_brackets))
+            found.append(take())
             if self.take_one_of([",", ")"]) == ")":
-                return (word, tuple(members))
+                return tuple(found)
 
     def text(self) -> str:
         """Takes a text, up to the bracket or the comma that ends it."""
@@ -143,30 +128,13 @@ class Reader:
         return text.decode()
 
     def two_texts(self) -> Tuple[str, str]:
-        """Takes a text, a comma, a second text, and the bracket after it."""
+        """Takes a text, a comma, and a second text."""
         first = self.text()
         self.take_one_of([","])
-        second = self.text()
-        self.take_one_of([")"])
-        return first, second
-
-    def pairs(self) -> Pairs:
-        """Takes the pairs of `entry(`, and the bracket after them."""
-        pairs = []
-        if self.sees(")"):
-            self.at += 1
-            return ()
-        while True:
-            key = self.text()
-            self.take_one_of([","])
-            value = self.text()
-            pairs.append((key, value))
-            if self.take_one_of([",", ")"]) == ")":
-                return tuple(pairs)
+        return first, self.text()
 
 
 def holds(condition: Condition, event: Event, descriptor: Descriptor) -> bool:
-    """Whether a condition holds of an event, whose key has this descriptor."""
     word = condition[0]
     argument = condition[1] if len(condition) > 1 else None
     if word == "all":

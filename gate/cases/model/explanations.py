@@ -12,10 +12,8 @@ from model.texts import write_field, write_id
 NONE_LEFT = "    no event is left\n"
 
 MOST_NEAREST = 3
-"""How many of the events are shown that come nearest to a condition."""
 
 MOST_COUNTED = 20
-"""How many of the events are shown that a statistic counts."""
 
 NOBODY: Condition = ("any", ())
 """The readers where no condition names them."""
@@ -102,11 +100,6 @@ def found_rows(record: Record, conditions: List[Condition], positions: Sequence[
     return "".join(condition_row(conditions, number) + event_row(record, position) for number, position in enumerate(positions))
 
 
-def number_of(answer: str) -> int:
-    """The K of `no K`."""
-    return int(answer.split()[1])
-
-
 def wrong_count(asked: Events, conditions: List[Condition]) -> str:
     """Both counts, and the first condition that doesn't hold in its place, or else the first that is left over."""
     record, positions = asked.record, asked.positions
@@ -127,27 +120,23 @@ def explain_exactly(asked: Events, conditions: List[Condition]) -> Answer:
         return answer + found_rows(asked.record, conditions, asked.positions), True
     if answer == "wrong-count\n":
         return answer + wrong_count(asked, conditions), False
-    number = number_of(answer)
+    number = int(answer.split()[1])
     lacking = lacking_row(asked.record, conditions[number], asked.positions[number])
     return answer + condition_row(conditions, number) + lacking, False
-
-
-def first_of(asked: Events, condition: Condition) -> int:
-    """The position of the first event of which a condition holds."""
-    return [position for position in asked.positions if holds_at(asked.record, condition, position)][0]
 
 
 def explain_loosely(asked: Events, conditions: List[Condition]) -> Answer:
     answer, is_yes = match_loosely(asked, conditions)
     if is_yes:
-        return answer + found_rows(asked.record, conditions, [first_of(asked, condition) for condition in conditions]), True
-    number = number_of(answer)
+        first = [next(it for it in asked.positions if holds_at(asked.record, condition, it)) for condition in conditions]
+        return answer + found_rows(asked.record, conditions, first), True
+    number = int(answer.split()[1])
     return answer + condition_row(conditions, number) + nearest_rows(asked, conditions[number], 0), False
 
 
 def explain_in_order(asked: Events, conditions: List[Condition]) -> Answer:
     answer, is_yes = match_in_order(asked, conditions)
-    number = len(conditions) if is_yes else number_of(answer)
+    number = len(conditions) if is_yes else int(answer.split()[1])
     found = list(first_positions(asked, conditions[:number]))
     rows = answer + found_rows(asked.record, conditions, found)
     if is_yes:
@@ -191,14 +180,12 @@ def explain_exclusive(record: Record, writers: Condition, readers: Condition) ->
 
 
 def explain_list(record: Record, name: str, conditions: List[Condition]) -> Answer:
-    """Each line of the list, and its descriptor."""
     lines = list_events(record, name, conditions)[0].split("\n")[:-1]
     keys = [record.entries[int(line.split()[0])].event.key for line in lines]
     return "".join(f"{line}   {described(record, key)}\n" for line, key in zip(lines, keys)), True
 
 
 def explain_executions(asked: Events) -> Answer:
-    """Each line of the executions, and its id."""
     lines = executions(asked)[0].split("\n")[:-1]
     ids = [write_field(write_id(asked.record.descriptor(int(line.split()[0])).id)) for line in lines]
     return "".join(f"{line} {id_text}\n" for line, id_text in zip(lines, ids)), True

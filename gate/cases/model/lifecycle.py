@@ -1,6 +1,6 @@
 """Whether a record keeps the lifecycle of its descriptors: each rule by what it says, looked up in the whole record."""
 
-from typing import Callable, List, Optional, Tuple
+from typing import Callable, Dict, List, Tuple
 
 from model.records import Event, Record
 from model.texts import Id
@@ -9,21 +9,10 @@ Rule = Callable[[List[Event], Record, Event], bool]
 """Whether an event breaks a rule after the events before it."""
 
 
-def known_ids(before: List[Event], record: Record) -> List[Id]:
-    """The ids of the static descriptors, and of those registered before."""
-    registered = [event.descriptor.id for event in before if event.kind == "dynamic"]
-    return [descriptor.id for descriptor in record.table] + registered
-
-
-def key_of_id(before: List[Event], record: Record, wanted: Id) -> Optional[int]:
-    """The key of the descriptor with an id, among those known."""
-    for key, descriptor in enumerate(record.table):
-        if descriptor.id == wanted:
-            return key
-    for event in before:
-        if event.kind == "dynamic" and event.descriptor.id == wanted:
-            return event.key
-    return None
+def known_keys(before: List[Event], record: Record) -> Dict[Id, int]:
+    """The keys of the static descriptors, and of those registered before, by their ids; of one id the first."""
+    registered = [(event.key, event.descriptor) for event in before if event.kind == "dynamic"]
+    return {descriptor.id: key for key, descriptor in reversed([*enumerate(record.table), *registered])}
 
 
 def runs(before: List[Event], key: int) -> bool:
@@ -33,18 +22,16 @@ def runs(before: List[Event], key: int) -> bool:
 
 
 def id_known(before: List[Event], record: Record, event: Event) -> bool:
-    return event.kind == "dynamic" and event.descriptor.id in known_ids(before, record)
+    return event.kind == "dynamic" and event.descriptor.id in known_keys(before, record)
 
 
 def parent_unknown(before: List[Event], record: Record, event: Event) -> bool:
-    if event.kind != "dynamic" or len(event.descriptor.id) < 2:
-        return False
-    return event.descriptor.id[:-1] not in known_ids(before, record)
+    return event.kind == "dynamic" and len(event.descriptor.id) > 1 and event.descriptor.id[:-1] not in known_keys(before, record)
 
 
 def parent_not_running(before: List[Event], record: Record, event: Event) -> bool:
     id_of_key = record.descriptor(event.key).id
-    return len(id_of_key) > 1 and not runs(before, key_of_id(before, record, id_of_key[:-1]))
+    return len(id_of_key) > 1 and not runs(before, known_keys(before, record)[id_of_key[:-1]])
 
 
 def ran_already(before: List[Event], record: Record, event: Event) -> bool:
@@ -58,25 +45,18 @@ def not_running(before: List[Event], record: Record, event: Event) -> bool:
 
 def child_running(before: List[Event], record: Record, event: Event) -> bool:
     own = record.descriptor(event.key).id
-    children = [it for it in known_ids(before, record) if it[:-1] == own]
-    return event.kind == "finish" and any(runs(before, key_of_id(before, record, child)) for child in children)
+    children = [key for child, key in known_keys(before, record).items() if child[:-1] == own]
+    return event.kind == "finish" and any(runs(before, key) for key in children)
 
 
-RULES: List[Tuple[str, Rule]] = [
-    ("id-known", id_known),
-    ("parent-unknown", parent_unknown),
-    ("parent-not-running", parent_not_running),
-    ("ran-already", ran_already),
-    ("not-running", not_running),
-    ("child-running", child_running),
-]
-"""The rules in the order in which the first that is broken is answered."""
+RULES: List[Rule] = [id_known, parent_unknown, parent_not_running, ran_already, not_running, child_running]
+"""The rules, named as in the answer, in the order in which the first that is broken is answered."""
 
 
 def never_ran(events: List[Event], record: Record, key: int) -> bool:
     """Whether a static key neither starts nor is skipped, though it has no parent, or its parent finishes successfully."""
     above = record.table[key].id[:-1]
-    parent = key_of_id(events, record, above)
+    parent = known_keys(events, record).get(above)
     is_due = not above or any(it.key == parent and it.kind == "finish" and it.status == "ok" for it in events)
     return is_due and not any(it.key == key and it.kind in ("start", "skip") for it in events)
 
@@ -85,9 +65,9 @@ def lifecycle(record: Record) -> Tuple[str, bool]:
     """The answer of `ask lifecycle`."""
     events = [entry.event for entry in record.entries]
     for position, event in enumerate(events):
-        for name, is_broken in RULES:
-            if is_broken(events[:position], record, event):
-                return f"no {position} {name}\n", False
+        broken = next((rule for rule in RULES if rule(events[:position], record, event)), None)
+        if broken:
+            return f"no {position} {broken.__name__.replace('_', '-')}\n", False
     running = sorted({event.key for event in events if runs(events, event.key)})
     if running:
         return f"no end {running[0]}\n", False

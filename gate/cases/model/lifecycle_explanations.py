@@ -1,8 +1,8 @@
 """What `ask explain lifecycle` answers: a sentence on what breaks the rule, and the events that it speaks of."""
 
-from typing import Callable, Dict, List, Sequence, Tuple
+from typing import List, Sequence, Tuple
 
-from model.lifecycle import key_of_id, lifecycle, runs
+from model.lifecycle import known_keys, lifecycle, runs
 from model.records import Event, Record
 from model.rows import described, event_row
 from model.texts import write_field, write_id
@@ -12,23 +12,16 @@ Why = Tuple[str, List[int]]
 
 MARKS = ("start", "skip", "finish")
 
-DID = {
-    "dynamic": "was registered",
-    "skip": "was skipped",
-    "start": "started",
-    "finish": "finished",
-    "report": "published entries",
-    "file": "published a file",
-}
-"""What an event did, by its kind."""
+DID = {"dynamic": "was registered", "skip": "was skipped", "report": "published entries", "file": "published a file"}
+"""What an event did, by its kind; of a start and a finish the kind says it."""
 
 
 def did(events: List[Event], position: int) -> str:
-    return f"{DID[events[position].kind]} at {position}"
+    kind = events[position].kind
+    return f"{DID.get(kind, f'{kind}ed')} at {position}"
 
 
 def positions_of(events: List[Event], key: int, kinds: Sequence[str] = MARKS) -> List[int]:
-    """The positions of the events of a key that are of one of these kinds."""
     return [position for position, event in enumerate(events) if event.key == key and event.kind in kinds]
 
 
@@ -37,7 +30,7 @@ def with_name(record: Record, key: int) -> str:
 
 
 def why_id_known(before: List[Event], record: Record, event: Event) -> Why:
-    known = key_of_id(before, record, event.descriptor.id)
+    known = known_keys(before, record)[event.descriptor.id]
     if known < len(record.table):
         return f"a static descriptor has its id, {with_name(record, known)}", []
     position = positions_of(before, known, ["dynamic"])[0]
@@ -49,7 +42,7 @@ def why_parent_unknown(before: List[Event], record: Record, event: Event) -> Why
 
 
 def why_parent_not_running(before: List[Event], record: Record, event: Event) -> Why:
-    parent = key_of_id(before, record, record.descriptor(event.key).id[:-1])
+    parent = known_keys(before, record)[record.descriptor(event.key).id[:-1]]
     last = positions_of(before, parent)[-1:]
     return f"its parent {described(record, parent)} {did(before, last[0]) if last else 'had not started'}", last
 
@@ -71,20 +64,9 @@ def why_child_running(before: List[Event], record: Record, event: Event) -> Why:
     return f"its child {described(record, before[first].key)}, which started at {first}, still ran", [first]
 
 
-WHY: Dict[str, Callable[[List[Event], Record, Event], Why]] = {
-    "id-known": why_id_known,
-    "parent-unknown": why_parent_unknown,
-    "parent-not-running": why_parent_not_running,
-    "ran-already": why_ran_already,
-    "not-running": why_not_running,
-    "child-running": why_child_running,
-}
-"""Why an event breaks a rule after those before it, by the rule; of the positions that of the event itself is left out."""
-
-
 def why_broken(events: List[Event], record: Record, position: int, rule: str) -> Why:
     """What the event that breaks a rule did, and why this breaks it."""
-    why, positions = WHY[rule](events[:position], record, events[position])
+    why, positions = globals()[f"why_{rule.replace('-', '_')}"](events[:position], record, events[position])
     return f"{did(events, position)}, but {why}", [*positions, position]
 
 
@@ -97,13 +79,12 @@ def why_never_ran(events: List[Event], record: Record, key: int) -> Why:
     above, idle = record.table[key].id[:-1], "neither started nor was skipped"
     if not above:
         return idle, []
-    parent = key_of_id(events, record, above)
+    parent = known_keys(events, record)[above]
     end = [position for position in positions_of(events, parent, ["finish"]) if events[position].status == "ok"][0]
     return f"{idle}, but its parent {described(record, parent)} succeeded at {end}", [end]
 
 
 def explain_lifecycle(record: Record) -> Tuple[str, bool]:
-    """The answer of `ask explain lifecycle`."""
     answer, is_yes = lifecycle(record)
     if is_yes:
         return answer, True

@@ -3,7 +3,7 @@
 from itertools import combinations
 from typing import Dict, List
 
-from model.lifecycle import known_ids
+from model.lifecycle import known_keys
 from model.questions import Answer, spans
 from model.records import Record
 from model.rows import overlap_rows
@@ -21,7 +21,7 @@ def locks_of(record: Record, key: int) -> Dict[bytes, str]:
 def is_test_without_child(record: Record, key: int) -> bool:
     """Whether a key is of a test of which no descriptor is a child."""
     descriptor = record.descriptor(key)
-    ids = known_ids([entry.event for entry in record.entries], record)
+    ids = known_keys([entry.event for entry in record.entries], record)
     return descriptor.is_test() and all(other[:-1] != descriptor.id for other in ids)
 
 

@@ -2,8 +2,10 @@
 
 import json
 import math
+import re
 from dataclasses import dataclass, field, replace
-from typing import Dict, Iterator, List, Optional, Set, Tuple
+from itertools import accumulate
+from typing import Callable, Dict, Iterator, List, Optional, Set, Tuple
 
 import form
 from model.questions import report
@@ -31,8 +33,6 @@ class Number:
 
 @dataclass
 class Node:
-    """A node of a plan."""
-
     letter: str
     segment: Segment
     name: str
@@ -48,20 +48,28 @@ class Node:
     dynamic: List["Node"] = field(default_factory=list)
 
 
-class Members(list):
-    """The members of an object, pairs of a name and a value, also those that are written again."""
-
-
 def read_json(data: bytes) -> object:
     """The value of a JSON text, numbers as `Number`s, or `Refused`; of two members of one name the last stays."""
     try:
-        value = json.loads(data.decode(), object_pairs_hook=Members, parse_int=number, parse_float=number, parse_constant=refuse_constant)
-        json.dumps(value, ensure_ascii=False, default=lambda found: found.text).encode()
+        text = data.decode()
+        value = json.loads(text, object_pairs_hook=members, parse_int=number, parse_float=number, parse_constant=refuse_constant)
+        texts_of(value)
     except (ValueError, RecursionError):
         raise Refused("plan is not JSON")
-    if nesting(value) > MAX_NESTING:
+    brackets = re.sub(r'"(\\.|[^"\\])*"|[^][{}]', "", text)
+    if max(accumulate((1 if it in "[{" else -1 for it in brackets), initial=0)) > MAX_NESTING:
         raise Refused("plan is not JSON")
-    return with_last(value)
+    return value
+
+
+def members(pairs: List[Tuple[str, object]]) -> Dict[str, object]:
+    """An object; also what is written again has to have texts that UTF-8 can have."""
+    texts_of(pairs)
+    return dict(pairs)
+
+
+def texts_of(value: object) -> bytes:
+    return json.dumps(value, ensure_ascii=False, default=lambda found: found.text).encode()
 
 
 def number(text: str) -> Number:
@@ -72,23 +80,7 @@ def number(text: str) -> Number:
 
 
 def refuse_constant(text: str) -> object:
-    """`NaN` and `Infinity` are no JSON."""
     raise ValueError(text)
-
-
-def nesting(value: object) -> int:
-    """How many arrays and objects stand within one another."""
-    if not isinstance(value, list):
-        return 0
-    below = [member for _, member in value] if isinstance(value, Members) else value
-    return 1 + max((nesting(it) for it in below), default=0)
-
-
-def with_last(value: object) -> object:
-    """The value with each object as a dictionary."""
-    if isinstance(value, Members):
-        return {name: with_last(member) for name, member in value}
-    return [with_last(item) for item in value] if isinstance(value, list) else value
 
 
 def pointer(path: str, step: object) -> str:
@@ -103,7 +95,6 @@ def check_text(value: object, path: str) -> str:
 
 
 def check_word(value: object, path: str, words) -> str:
-    """One of these words."""
     if not isinstance(value, str) or value not in words:
         raise Wrong(path)
     return value
@@ -150,7 +141,6 @@ def check_lock(value: object, path: str) -> Tuple[str, str]:
 
 
 def check_result(value: object, path: str) -> Tuple[str, Optional[str]]:
-    """The status and the message of a result."""
     status, message = "", None
     for name, member, member_path in check_members(value, path, ["status", "message"], ["status"]):
         if name == "status":
@@ -162,67 +152,62 @@ def check_result(value: object, path: str) -> Tuple[str, Optional[str]]:
     return status, message
 
 
-def check_full_text(value: object, path: str) -> str:
+def check_node(value: object, path: str, is_static: bool, version: int) -> Node:
+    """The node of a JSON object, without the nodes below it, or `Wrong`. Its members are checked in the order of `MEMBERS`."""
+    node = Node("", ("", ""), "")
+    unknown = ([] if is_static else OF_STATIC_NODES) + ["files"] * (version < form.FILE_VERSION)
+    names = [name for name in MEMBERS if name not in unknown]
+    for name, member, member_path in check_members(value, path, names, ["type", "segment", "name"]):
+        vars(node).update(MEMBERS[name](member, member_path))
+    return node
+
+
+def check_isolated(value: object, path: str) -> Dict[str, object]:
+    if not isinstance(value, bool):
+        raise Wrong(path)
+    return {"is_isolated": value}
+
+
+def check_file(value: object, path: str) -> str:
     if check_text(value, path) == "":
         raise Wrong(path)
     return value
 
 
-def member_names(is_static: bool, version: int) -> List[str]:
-    """The members of a node, in the order in which they are checked."""
-    names = "type segment name mode isolated locks skip result entries files children dynamic".split()
-    unknown = ([] if is_static else ["mode", "isolated", "locks", "children"]) + (["files"] if version < form.FILE_VERSION else [])
-    return [name for name in names if name not in unknown]
+def each(check: Callable, value: object, path: str) -> List:
+    return [check(item, item_path) for item, item_path in check_array(value, path)]
 
 
-def check_node(value: object, path: str, is_static: bool, version: int) -> Node:
-    """The node of a JSON object, without the nodes below it, or `Wrong`."""
-    node = Node("", ("", ""), "")
-    names = member_names(is_static, version)
-    for name, member, member_path in check_members(value, path, names, ["type", "segment", "name"]):
-        check_member(node, name, member, member_path)
-    return node
+def check_below(value: object, path: str) -> Dict[str, object]:
+    """The nodes below a node are read later."""
+    check_array(value, path)
+    return {}
 
 
-def check_member(node: Node, name: str, value: object, path: str) -> None:
-    """Puts a member into its node."""
-    if name == "type":
-        node.letter = NODE_TYPES[check_word(value, path, NODE_TYPES)]
-    elif name == "segment":
-        node.segment = check_pair(value, path)
-    elif name == "name":
-        node.name = check_text(value, path)
-    elif name == "mode":
-        node.is_concurrent = check_word(value, path, ["same_thread", "concurrent"]) == "concurrent"
-    elif name == "isolated":
-        if not isinstance(value, bool):
-            raise Wrong(path)
-        node.is_isolated = value
-    elif name == "locks":
-        node.locks = [check_lock(item, item_path) for item, item_path in check_array(value, path)]
-    elif name == "skip":
-        node.skip = check_text(value, path)
-    elif name == "result":
-        node.status, node.message = check_result(value, path)
-    elif name == "entries":
-        node.entries = [check_entry(item, item_path) for item, item_path in check_array(value, path)]
-    elif name == "files":
-        node.files = [check_full_text(item, item_path) for item, item_path in check_array(value, path)]
-    else:
-        check_array(value, path)
-
-
-def check_entry(value: object, path: str) -> List[Tuple[str, str]]:
-    return [check_pair(item, item_path) for item, item_path in check_array(value, path)]
+MEMBERS: Dict[str, Callable[[object, str], Dict[str, object]]] = {
+    "type": lambda value, path: {"letter": NODE_TYPES[check_word(value, path, NODE_TYPES)]},
+    "segment": lambda value, path: {"segment": check_pair(value, path)},
+    "name": lambda value, path: {"name": check_text(value, path)},
+    "mode": lambda value, path: {"is_concurrent": check_word(value, path, ["same_thread", "concurrent"]) == "concurrent"},
+    "isolated": check_isolated,
+    "locks": lambda value, path: {"locks": each(check_lock, value, path)},
+    "skip": lambda value, path: {"skip": check_text(value, path)},
+    "result": lambda value, path: dict(zip(("status", "message"), check_result(value, path))),
+    "entries": lambda value, path: {"entries": each(lambda *entry: each(check_pair, *entry), value, path)},
+    "files": lambda value, path: {"files": each(check_file, value, path)},
+    "children": check_below,
+    "dynamic": check_below,
+}
+"""What each member of a node says of it."""
+OF_STATIC_NODES = ["mode", "isolated", "locks", "children"]
 
 
 @dataclass
 class PlanReader:
-    """What was met of a plan so far: its numbers of nodes, and its lock keys."""
+    """What was met of a plan so far: how many dynamic and static nodes, and its lock keys."""
 
     version: int = 1
-    static_nodes: int = 0
-    dynamic_nodes: int = 0
+    nodes: List[int] = field(default_factory=lambda: [0, 0])
     lock_keys: List[str] = field(default_factory=list)
 
     def read(self, value: object, path: str, level: int, above: Id, is_static: bool, siblings: Set[Segment]) -> Node:
@@ -237,12 +222,9 @@ class PlanReader:
         siblings.add(node.segment)
         below = above + (node.segment,)
         segments: Set[Segment] = set()
-        for index, item in enumerate(value.get("children", []) if is_static else []):
-            item_path = pointer(pointer(path, "children"), index)
-            node.children.append(self.read(item, item_path, level + 1, below, True, segments))
-        for index, item in enumerate(value.get("dynamic", [])):
-            item_path = pointer(pointer(path, "dynamic"), index)
-            node.dynamic.append(self.read(item, item_path, level + 1, below, False, segments))
+        for name, nodes in (("children", node.children), ("dynamic", node.dynamic)):
+            for index, item in enumerate(value.get(name, [])):
+                nodes.append(self.read(item, f"{path}/{name}/{index}", level + 1, below, name == "children", segments))
         return node
 
     def check_rules(self, node: Node, above: Id, is_static: bool, siblings: Set[Segment]) -> None:
@@ -253,10 +235,8 @@ class PlanReader:
                 raise Refused("entry key twice")
         if "" in node.segment or not is_within_limits(above + (node.segment,)):
             raise Refused("plan id is bad")
-        self.static_nodes += 1 if is_static else 0
-        self.dynamic_nodes += 0 if is_static else 1
-        is_full = max(self.static_nodes, self.dynamic_nodes) > form.MAX_DESCRIPTORS
-        if node.segment in siblings or is_full:
+        self.nodes[is_static] += 1
+        if node.segment in siblings or self.nodes[is_static] > form.MAX_DESCRIPTORS:
             raise Refused("plan table is refused")
         for key, _ in node.locks:
             if key != "global" and key not in self.lock_keys:
@@ -284,7 +264,6 @@ def read_plan(data: bytes) -> Node:
 
 
 def count_events(node: Node) -> int:
-    """How many events the script of a node has."""
     if node.skip is not None:
         return 1
     below = sum(count_events(child) for child in node.children)

@@ -22,18 +22,11 @@ class Outcome:
 def outcome(words: List[bytes], data: bytes) -> Outcome:
     """The outcome of the words after the program's name."""
     try:
-        texts = [word.decode() for word in words]
-        output, is_yes = perform(texts, data)
-    except UnicodeDecodeError:
-        return fault("bad command line")
-    except Refused as refusal:
-        return fault(refusal.args[0])
+        output, is_yes = perform([word.decode() for word in words], data)
+    except (UnicodeDecodeError, Refused) as fault:
+        line = "bad command line" if isinstance(fault, UnicodeDecodeError) else fault.args[0]
+        return Outcome(b"", f"testkit: {line}\n".encode(), 2)
     return Outcome(output.encode(), b"", 0 if is_yes else 1)
-
-
-def fault(line: str, status: int = 2) -> Outcome:
-    """The outcome of a fault."""
-    return Outcome(b"", f"testkit: {line}\n".encode(), status)
 
 
 def perform(words: List[str], data: bytes):

@@ -1,7 +1,7 @@
 """What `replay` answers: the queue's core, played by a script."""
 
 from dataclasses import dataclass, field
-from typing import Dict, List, Optional
+from typing import List, Optional
 
 import form
 from model.records import Descriptor, Entry, Record, Refused, cut_header, line_text, read_entry_line, read_node_line
@@ -19,36 +19,22 @@ class Scenario:
     entries: List[Entry] = field(default_factory=list)
     steps: List[int] = field(default_factory=list)
 
-    def script(self, worker: int) -> List[object]:
-        """What a worker emits in turn: its entries, and then its end mark."""
-        return [entry for entry in self.entries if entry.worker == worker] + [END]
-
     def play(self) -> Record:
-        """The record of what is taken, or `Refused`."""
-        emitted: Dict[int, int] = {worker: 0 for worker in range(1, self.workers + 1)}
-        taken = Record(self.table)
-        waiting: List[object] = []
+        """The record of what is taken, or `Refused`. A worker emits its entries in turn, and then its end mark."""
+        scripts = {worker: [it for it in self.entries if it.worker == worker] + [END] for worker in range(1, self.workers + 1)}
+        taken, waiting = Record(self.table), []
         for number, step in enumerate(self.steps):
-            if step == 0:
-                if waiting:
-                    take(waiting.pop(0), number, taken)
+            if step > 0:
+                if not scripts[step]:
+                    raise Refused(f"step {number} comes after the end mark")
+                waiting.append(scripts[step].pop(0))
                 continue
-            script = self.script(step)
-            if emitted[step] == len(script):
-                raise Refused(f"step {number} comes after the end mark")
-            waiting.append(script[emitted[step]])
-            emitted[step] += 1
+            item = waiting.pop(0) if waiting else END
+            refusal = None if item == END else taken.refusal(item)
+            if refusal is not None:
+                raise Refused(f"step {number} {refusal}")
+            taken.entries += [item] * (item != END)
         return taken
-
-
-def take(item: object, step: int, taken: Record) -> None:
-    """Puts an entry that a step takes into the record; an end mark is put nowhere."""
-    if item == END:
-        return
-    refusal = taken.refusal(item)
-    if refusal is not None:
-        raise Refused(f"step {step} {refusal}")
-    taken.entries.append(item)
 
 
 def read_workers(line: str) -> Optional[int]:
@@ -66,7 +52,6 @@ def read_step(text: str, workers: int) -> Optional[int]:
 
 
 def read_steps(line: str, workers: int) -> Optional[List[int]]:
-    """The steps of a line `S`."""
     fields = line.split("|")
     steps = [read_step(text, workers) for text in fields[1:]]
     return None if fields[0] != "S" or None in steps else steps

@@ -13,14 +13,6 @@ from model.records import Record, Refused, read_record
 from model.texts import read_number
 
 Question = Callable[[Record], Answer]
-Matcher = Callable[[Events, List[Condition]], Answer]
-
-MATCHERS = {"exactly": questions.match_exactly, "loosely": questions.match_loosely, "in-order": questions.match_in_order}
-EXPLAINED_MATCHERS = {
-    "exactly": explanations.explain_exactly,
-    "loosely": explanations.explain_loosely,
-    "in-order": explanations.explain_in_order,
-}
 
 
 def read_question(words: List[str]) -> Question:
@@ -28,7 +20,7 @@ def read_question(words: List[str]) -> Question:
     readers = {
         "stats": lambda words: read_stats(words, 0, questions.stats),
         "count": read_count,
-        "match": lambda words: read_match(words, MATCHERS),
+        "match": lambda words: read_match(words, "match"),
         "list": lambda words: read_list(words, 0, questions.list_events),
         "exclusive": lambda words: read_exclusive(words, 0, questions.exclusive),
         "executions": lambda words: read_executions(words, 0, questions.executions),
@@ -52,9 +44,7 @@ def read_explain(words: List[str]) -> Question:
         "lifecycle": lambda words: read_no_word(words, 1, explain_lifecycle),
         "locks": lambda words: read_no_word(words, 1, explain_locks),
     }
-    if words and words[0] in readers:
-        return readers[words[0]](words[1:])
-    return read_match(words, EXPLAINED_MATCHERS)
+    return readers[words[0]](words[1:]) if words and words[0] in readers else read_match(words, "explain")
 
 
 def read_selection(words: List[str], first: int) -> Tuple[str, List[str], int]:
@@ -98,13 +88,14 @@ def read_conditions(words: List[str], first: int) -> List[Condition]:
     return conditions
 
 
-def read_match(words: List[str], matchers: Dict[str, Matcher]) -> Question:
+def read_match(words: List[str], question: str) -> Question:
     """A match of a selection's events: a mode and conditions."""
     selection, words, first = read_selection(words, 0)
-    if not words or words[0] not in matchers:
+    if not words or words[0] not in ("exactly", "loosely", "in-order"):
         raise Refused(f"bad word {first}")
     conditions = read_conditions(words[1:], first + 1)
-    return lambda record: matchers[words[0]](all_events(record).pick(selection), conditions)
+    matcher = getattr(explanations if question == "explain" else questions, f"{question}_{words[0].replace('-', '_')}")
+    return lambda record: matcher(all_events(record).pick(selection), conditions)
 
 
 def read_executions(words: List[str], first: int, answer: Callable[[Events], Answer]) -> Question:
@@ -137,6 +128,5 @@ def read_no_word(words: List[str], first: int, question: Question) -> Question:
 
 
 def ask(words: List[str], data: bytes) -> Answer:
-    """The answer of `ask` with these words to a record text, or `Refused`."""
     question = read_question(words)
     return question(read_record(data))

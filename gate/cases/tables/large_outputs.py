@@ -6,7 +6,7 @@ from tables.large_plans import CONCURRENT, nodes, plan, report_of
 from tables.long_replays import long_replay, long_replay_record
 from tables.many_events import many_events, many_executions, many_explained_skips, many_skips
 
-FULL_DEVICE = [
+CASES = [
     Case(f"full device/{name}", as_words(words), data, error=b"testkit: device failed\n", status=3, standard_output=Output.FULL)
     for name, words, data in [
         ("a long list of events", "ask list all", many_events),
@@ -15,9 +15,7 @@ FULL_DEVICE = [
         ("a long replay", "replay", long_replay),
         ("a long report", "run --workers 2", lambda: plan(nodes("children", 10_000, CONCURRENT))),
     ]
-]
-
-CUT_PIPE = [
+] + [
     Case(f"pipe that is cut/{name}", as_words(words), data, output, b"testkit: device failed\n", 3, standard_output=Output.CUT_PIPE)
     for name, words, data, output in [
         ("a long list of skips", "ask list skipped", many_events, many_skips),
@@ -27,5 +25,3 @@ CUT_PIPE = [
         ("a long report", "run --workers 2", lambda: plan(nodes("children", 20_000)), lambda: report_of(20_000)),
     ]
 ]
-
-CASES = FULL_DEVICE + CUT_PIPE

@@ -9,12 +9,10 @@ def node(kind: str, tag: str, value: str, members: str = "") -> str:
 
 
 def plan(members: str) -> bytes:
-    """A plan of a root with these members."""
     return ('{"version":1,"root":' + node("both", "engine", "e", members) + "}").encode()
 
 
 def nodes(member: str, count: int, mode: str = "", below: str = "") -> str:
-    """A member with `count` tests."""
     tests = [node("test", member, str(number), mode + below) for number in range(count)]
     return f',"{member}":[' + ",".join(tests) + "]"
 

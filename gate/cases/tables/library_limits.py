@@ -17,9 +17,7 @@ def record_of_worker_15(count: int) -> bytes:
     return (HEADER + NODE + dynamic + f"E|15|{first + count - 1}|0|start\n").encode()
 
 
-LIMITS = [
+CASES = [
     answer("2^20 turns and more", "replay", lambda: replay_of_takes(1_100_000), HEADER + NODE + "E|15|0|7|start\n"),
     answer("worker 15, all keys", "ask match in-order all(id([t:65535]),started)", lambda: record_of_worker_15(65_536), "yes 65536\n"),
 ]
-
-CASES = LIMITS

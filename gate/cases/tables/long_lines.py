@@ -29,7 +29,7 @@ def loosely(*conditions: str) -> List[str]:
     return ["ask", "match", "loosely", *conditions]
 
 
-LONG_LINES = [
+CASES = [
     answer("long line/reason", "ask stats", event("skip|", LONG_TEXT), stats(skipped=1)),
     answer("long line/escapes", "ask stats", event("skip|", "\\p" * 1_000_000), stats(skipped=1)),
     answer("long line/name", "ask stats", lines("N|T|[engine:e]|", LONG_TEXT), stats()),
@@ -68,5 +68,3 @@ LONG_LINES = [
     fault("many words/20,000 words of a run", ["run"] + ["--workers"] * 20_000, "", "bad command line"),
     fault("many words/20,000 words of a replay", ["replay"] + ["x"] * 20_000, "", "bad command line"),
 ]
-
-CASES = LONG_LINES

@@ -26,10 +26,8 @@ def waiting_replay_record() -> bytes:
     return (HEADER + NODE + "".join(f"E|1|0|{stamp}|start\n" for stamp in range(100_000))).encode()
 
 
-REPLAYS = [
+CASES = [
     answer("100,000 entries/in turn", "replay", long_replay, long_replay_record),
     answer("100,000 entries/all waiting", "replay", waiting_replay, waiting_replay_record),
     fault("100,000 entries/after the end", "replay", lambda: waiting_replay()[:-1] + b"|1\n", "step 200002 comes after the end mark"),
 ]
-
-CASES = REPLAYS

@@ -19,7 +19,7 @@ def most_of_both_kinds() -> bytes:
     return roots(65_536) + b"E|1|65535|0|start\n" + registrations(65_536)[len(HEADER) :]
 
 
-DESCRIPTORS = [
+CASES = [
     answer("65,536 descriptors/static", "ask stats", lambda: roots(65_536), stats()),
     fault("65,537 descriptors/static", "ask stats", lambda: roots(65_537), "line 65538 is bad"),
     answer("65,536 descriptors/registered", "ask stats", lambda: registrations(65_536), stats(dynamic=65_536)),
@@ -33,5 +33,3 @@ DESCRIPTORS = [
         *("ask count dynamic", lambda: registrations(65_536) + b"E|2|131072|0|dynamic|T|[d:x]|n\n", "65537\n"),
     ),
 ]
-
-CASES = DESCRIPTORS

@@ -2,6 +2,7 @@
 
 import form
 from tables.building import answer, stats
+from tables.plan_texts import children, dynamic, node, plan_of
 
 RUNS = 1000
 
@@ -13,21 +14,12 @@ KEYS = 3
 
 
 def group(number: int) -> str:
-    mode = "read" if number % 5 == 0 else "read_write"
-    return (
-        f'{{"type":"container","segment":["c","{number:02}"],"name":"c","mode":"concurrent",'
-        f'"locks":[{{"key":"k{number % KEYS}","mode":"{mode}"}}],'
-        '"children":[{"type":"test","segment":["t","1"],"name":"t"},'
-        '{"type":"test","segment":["t","2"],"name":"t","skip":"off"}],'
-        '"dynamic":[{"type":"test","segment":["d","1"],"name":"d","files":["log"]}]}'
-    )
+    locks = f',"locks":[{{"key":"k{number % KEYS}","mode":"{"read" if number % 5 == 0 else "read_write"}"}}]'
+    below = children(node("test", "t", "1"), node("test", "t", "2", ',"skip":"off"')) + dynamic(node("test", "d", "1", ',"files":["log"]'))
+    return node("container", "c", f"{number:02}", ',"mode":"concurrent"' + locks + below)
 
 
-PLAN = (
-    '{"version":2,"root":{"type":"container","segment":["engine","e"],"name":"e","children":['
-    + ",".join(group(number) for number in range(GROUPS))
-    + "]}}"
-)
+PLAN = plan_of(node("container", "engine", "e", children(*map(group, range(GROUPS)))), "2")
 
 REPORT = (
     stats(skipped=GROUPS, started=1 + 3 * GROUPS, finished=1 + 3 * GROUPS, succeeded=1 + 3 * GROUPS, dynamic=GROUPS, files=GROUPS)
@@ -35,7 +27,7 @@ REPORT = (
     + "".join(
         f"[engine:e]/[c:{number:02}]\n  start\n  finish|ok\n"
         f"[engine:e]/[c:{number:02}]/[d:1]\n"
-        f"  dynamic|T|[engine:e]/[c:{number:02}]/[d:1]|d\n  start\n  file|log\n  finish|ok\n"
+        f"  dynamic|T|[engine:e]/[c:{number:02}]/[d:1]|1\n  start\n  file|log\n  finish|ok\n"
         f"[engine:e]/[c:{number:02}]/[t:1]\n  start\n  finish|ok\n"
         f"[engine:e]/[c:{number:02}]/[t:2]\n  skip|off\n"
         for number in range(GROUPS)

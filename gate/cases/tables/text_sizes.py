@@ -37,7 +37,6 @@ def replay_of_size(size: int) -> bytes:
 
 
 def record_of_replay(size: int) -> bytes:
-    """What the replay of `size` bytes prints."""
     return (HEADER + name_of_size(REPLAY_HEADER + "W|1\n", "S\n", size)).encode()
 
 
