@@ -20,7 +20,7 @@ streams) for it in 0 2; do
     at=/proc/$$/fd/$it
     if [ -p $at ]; then echo pipe; elif [ -f $at ]; then echo file; elif [ -d $at ]; then echo folder; else echo closed; fi
 done ;;
-reads) exec {sys.executable} -S -c "import os; print(sum(1 for _ in iter(lambda: os.read(0, 1 << 20), b'')) > 9)" ;;
+reads) exec {sys.executable} -S -c "import os; print(sum(1 for _ in iter(lambda: os.read(0, 1 << 20), b'')) > 49)" ;;
 threads) exec {sys.executable} -S -c "import threading as t, time; [t.Thread(target=time.sleep, args=(1,)).start() for _ in range($2)]" ;;
 *) printf '<%s>' "$@" ;;
 esac
