@@ -217,7 +217,8 @@ fn checked_runs<R: Threads + Wait + Sync>(
 ) -> Option<(bool, u64)> {
     let engine = engine(alloc, units)?;
     let calls = AtomicU64::new(0);
-    let check = |_results: &Results| calls.fetch_add(1, Ordering::SeqCst) < passing;
+    let counter = &calls;
+    let check = move |_results: &Results| counter.fetch_add(1, Ordering::SeqCst) < passing;
     let found = execute_many(rt, alloc, &engine, 2, 64, 3, &check).ok()?;
     Some((found.is_some(), calls.load(Ordering::SeqCst)))
 }
