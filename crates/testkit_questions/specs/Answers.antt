@@ -42,7 +42,9 @@ use Rattle.testkit_questions.specs.declared.questions.Question.TheVariants.{Stat
 use Rattle.testkit_questions.specs.declared.questions.Question.TheVariants.{List as Listed}
 use Rattle.testkit_questions.specs.declared.questions.Question.TheVariants.{Exclusive as OfHolders}
 use Rattle.testkit_questions.specs.declared.questions.Question.TheVariants.{Executions}
-use Rattle.testkit_questions.specs.declared.questions.Question.TheVariants.{Lifecycle as OfLifecycle}
+use Rattle.testkit_questions.specs.declared.questions.Question.TheVariants.{
+  Lifecycle as OfLifecycle,
+}
 use Rattle.testkit_questions.specs.declared.questions.Question.TheVariants.{Locks as OfLocks}
 use Rattle.testkit_questions.specs.declared.questions.Question.TheVariants.{Report}
 

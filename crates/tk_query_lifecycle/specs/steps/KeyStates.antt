@@ -13,7 +13,9 @@ use Rattle.tk_record.specs.Entries.{of_status}
 use Rattle.tk_query_lifecycle.specs.declared.lifecycle_rules.LifecycleRule.{LifecycleRule}
 use Rattle.tk_query_lifecycle.specs.declared.lifecycle_rules.LifecycleRule.TheVariants.{RanAlready}
 use Rattle.tk_query_lifecycle.specs.declared.lifecycle_rules.LifecycleRule.TheVariants.{NotRunning}
-use Rattle.tk_query_lifecycle.specs.declared.lifecycle_rules.LifecycleRule.TheVariants.{ChildRunning}
+use Rattle.tk_query_lifecycle.specs.declared.lifecycle_rules.LifecycleRule.TheVariants.{
+  ChildRunning,
+}
 use Rattle.tk_query_lifecycle.specs.declared.key_states.TheConstants.{KEYS_IN_ROW}
 use Rattle.tk_query_lifecycle.specs.declared.key_states.Phase.{Phase}
 use Rattle.tk_query_lifecycle.specs.declared.key_states.Phase.TheVariants.{Idle, Running, Ended}

@@ -16,8 +16,12 @@ use Rattle.tk_query_lifecycle.specs.NeverRan.{EachDueKeyRuns, IsFirstNeverRun, N
 use Rattle.tk_query_lifecycle.specs.steps.KeyStates.{key_under, ArePut, IsCounted, advanced}
 use Rattle.tk_query_lifecycle.specs.steps.KeyStates.{is_running, refusal, running_child, state_of}
 use Rattle.tk_query_lifecycle.specs.declared.lifecycle_rules.LifecycleRule.{LifecycleRule}
-use Rattle.tk_query_lifecycle.specs.declared.lifecycle_rules.LifecycleRule.TheVariants.{ParentUnknown}
-use Rattle.tk_query_lifecycle.specs.declared.lifecycle_rules.LifecycleRule.TheVariants.{ParentNotRunning}
+use Rattle.tk_query_lifecycle.specs.declared.lifecycle_rules.LifecycleRule.TheVariants.{
+  ParentUnknown,
+}
+use Rattle.tk_query_lifecycle.specs.declared.lifecycle_rules.LifecycleRule.TheVariants.{
+  ParentNotRunning,
+}
 use Rattle.tk_query_lifecycle.specs.declared.key_states.Phase.{Phase}
 use Rattle.tk_query_lifecycle.specs.declared.key_states.Phase.TheVariants.{Idle, Running, Ended}
 use Rattle.tk_query_lifecycle.specs.declared.key_states.Parent.{Parent}
