@@ -58,7 +58,7 @@ class Module:
 
     def __init__(self, path: str, text: str) -> None:
         self.path, self.crate, self.lines = path, path.split("/")[1], text.split("\n")
-        self.is_of_steps = "/specs/steps/" in path
+        self.is_of_steps = re.search(r"/specs/steps[./]", path) is not None
         self.name = re.sub(r"\.Lib$", "", ".".join(["Rattle", *path[: -len(".antt")].split("/")[1:]]))
         self.scope = Scope(text)
         self.definitions = list(self._definitions())

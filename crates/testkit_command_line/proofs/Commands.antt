@@ -22,7 +22,7 @@ use Rattle.testkit_command_line.specs.declared.faults.CommandLineFault.{CommandL
 use Rattle.testkit_command_line.specs.declared.faults.CommandLineFault.TheVariants as faults
 use Rattle.testkit_command_line.specs.CommandLines.{IsJobOf, IsNoAskLine, commands, job_of_command}
 use Rattle.testkit_command_line.specs.CommandLines.{other_job, output_by, run_by, run_by_number}
-use Rattle.testkit_command_line.specs.steps.CommandLines.{fault_of_parse}
+use Rattle.testkit_command_line.specs.steps.{fault_of_parse}
 
 pub commands_are_simple : is_simple commands ≡ true
 unfolding commands clap_on_literals

@@ -2,7 +2,7 @@
 ghost use Rattle.std.specs.Prelude.{◌≡◌};
 ghost use Rattle.clap.specs.Words.{kind_of};
 ghost use Rattle.testkit_command_line.specs.declared.faults.CommandLineFault.TheVariants.{Memory as NoMemory};
-ghost use Rattle.testkit_command_line.specs.steps.CommandLines.{fault_of_parse};
+ghost use Rattle.testkit_command_line.specs.steps.{fault_of_parse};
 
 use clap::error::ErrorKind;
 use std::alloc::AllocError;

@@ -4,7 +4,7 @@ ghost use Rattle.clap.specs.Words.{FailsBy, HasMatchesOf, app_of, fault_of, firs
 ghost use Rattle.clap.specs.declared.builder.command.Command.TheViews.{out-Command as fields_of};
 ghost use Rattle.testkit_command_line.specs.declared.faults.CommandLineFault.TheVariants.{Memory};
 ghost use Rattle.testkit_command_line.specs.CommandLines.{IsJobOf, IsNoJob, commands, job_of_command, other_job, output_by, run_by, run_command};
-ghost use Rattle.testkit_command_line.specs.steps.CommandLines.{fault_of_parse};
+ghost use Rattle.testkit_command_line.specs.steps.{fault_of_parse};
 
 use crate::faults::{CommandLineFault, parse_fault};
 use crate::jobs::{Job, RunOptions, RunOutput};

@@ -20,7 +20,7 @@ use Rattle.testkit_program.specs.declared.faults.Fault.{Fault}
 use Rattle.testkit_program.specs.declared.faults.Fault.TheVariants as faults
 use Rattle.testkit_program.specs.Jobs.{Devices, IsBroken, IsDone, IsOfWords, IsRefused}
 use Rattle.testkit_program.specs.Jobs.{IsReportFault, OfOptions, OfOutput, Transfer, transfer}
-use Rattle.testkit_program.specs.steps.Jobs.{IsPlanOutcome, IsRunOutcome, output_text}
+use Rattle.testkit_program.specs.steps.{IsPlanOutcome, IsRunOutcome, output_text}
 use Rattle.testkit_program.proofs.Loads.{load_broken, load_refused}
 
 -- all bytes of a source were loaded, where its bytes are known

@@ -6,7 +6,7 @@ ghost use Rattle.tk_streams.specs.declared.transfers.LoadFault.{LoadFault};
 ghost use Rattle.tk_streams.specs.declared.transfers.TheConstants.{CHUNK};
 ghost use Rattle.testkit_program.specs.declared.faults.Fault.TheVariants.{Load, Report};
 ghost use Rattle.testkit_program.specs.Jobs.{IsBroken, IsDone, IsInWriting, IsNotPerformed, IsOfWords, IsPerformed, IsRefused, devices, transfer};
-ghost use Rattle.testkit_program.specs.steps.Jobs.{IsPlanOutcome, IsRunOutcome, output_text};
+ghost use Rattle.testkit_program.specs.steps.{IsPlanOutcome, IsRunOutcome, output_text};
 ghost use Rattle.tk_plan_runs.specs.Answers.{IsRunText};
 ghost use Rattle.testkit_program.specs.Statuses.{fault_of_line};
 ghost use Rattle.testkit_command_line.specs.declared.jobs.Job.TheVariants as jobs;

@@ -17,7 +17,7 @@ use Rattle.testkit_questions.specs.declared.conditions.ConditionsFault.{Conditio
 use Rattle.testkit_questions.specs.declared.conditions.ConditionsFault.TheVariants as several
 use Rattle.testkit_questions.specs.Conditions.{IsConditionsFault}
 use Rattle.testkit_questions.specs.Questions.{AreConditions, Expecting, IsNextExpected}
-use Rattle.testkit_questions.specs.steps.Conditions.{IsTextFault}
+use Rattle.testkit_questions.specs.steps.{IsTextFault}
 
 lacks : (name : List ℕ) → list_all (λ b. not (b == 61)) name ≡ true → (i : ℕ) → i < length name → get_or name i 0 ≢ 61
 lacks name all i lt is =

@@ -3,7 +3,7 @@ ghost use Rattle.std.specs.Prelude.{◌≡◌, map, Ok, Some, IfErr, IfOk};
 ghost use Rattle.tk_query_conditions.specs.Answer.{IsReadAs};
 ghost use Rattle.testkit_questions.specs.Questions.{AreConditions};
 ghost use Rattle.testkit_questions.specs.Conditions.{IsConditionsFault};
-ghost use Rattle.testkit_questions.specs.steps.Conditions.{IsTextFault};
+ghost use Rattle.testkit_questions.specs.steps.{IsTextFault};
 ghost use Rattle.testkit_questions.specs.FaultTexts.{conditions_fault_text};
 ghost use Rattle.testkit_questions.specs.declared.conditions.ConditionsFault.TheVariants.{Memory as MemoryFault};
 

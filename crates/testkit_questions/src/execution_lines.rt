@@ -4,7 +4,7 @@ ghost use Rattle.std.specs.Io.KnownBytes.{Appends};
 ghost use Rattle.std.specs.List.{flat_map};
 ghost use Rattle.tk_streams.specs.Stream.{AppendsPrefix};
 ghost use Rattle.testkit_questions.specs.Answers.{execution_line};
-ghost use Rattle.tk_streams.specs.Pieces.{Adds, outgoing};
+ghost use Rattle.tk_streams.specs.Pieces.{AddsTo};
 
 use tk_query::{Execution, ExecutionIter};
 use tk_streams::{Broken, Piece, ShortLine, Target};
@@ -26,8 +26,7 @@ fn line_of(execution: Execution) -> ShortLine
 }
 
 fn put_executions<T: Target>(piece: &mut Piece, target: &mut T, executions: ExecutionIter<'_>)
-    ensures { Adds (outgoing (T.contents target.old) (T.broken target.old) piece.old)
-        (outgoing (T.contents target.new) (T.broken target.new) piece.new)
+    ensures { AddsTo T.contents T.broken target.old target.new piece.old piece.new
         (flat_map execution_line executions.entry) }
 {
     'executions: for execution in executions {

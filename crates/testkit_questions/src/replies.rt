@@ -2,7 +2,7 @@
 ghost use Rattle.std.specs.Prelude.{◌≡◌, true, OnErr, OnOk};
 ghost use Rattle.std.specs.Io.KnownBytes.{Appends};
 ghost use Rattle.tk_streams.specs.Stream.{AppendsPrefix};
-ghost use Rattle.testkit_questions.specs.steps.Replies.{reply_is_yes, reply_text};
+ghost use Rattle.testkit_questions.specs.steps.{reply_is_yes, reply_text};
 
 use crate::answers::Answer;
 use crate::execution_lines::write_executions;

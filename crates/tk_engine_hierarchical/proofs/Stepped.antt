@@ -19,7 +19,7 @@ use Rattle.tk_plan.specs.Trees.{no_trees, tree, tree_of}
 use Rattle.tk_plan.proofs.NodeOrder.{all_numbered}
 use Rattle.tk_plan.proofs.ListParts.{all_back, all_prefix}
 use Rattle.tk_engine_hierarchical.specs.StaticSteps.{FitsNode, FitsPlan}
-use Rattle.tk_engine_hierarchical.specs.steps.StaticSteps.{MayStepAs}
+use Rattle.tk_engine_hierarchical.specs.steps.{MayStepAs}
 use Rattle.tk_engine_unit_events.specs.declared.outcomes.Outcome.{Outcome}
 
 -- what holds of the nodes of some trees holds of those of their units

@@ -25,7 +25,7 @@ use Rattle.tk_engine_hierarchical.specs.Laws.{RanTree, may_of}
 use Rattle.tk_engine_unit_events.specs.UnitSteps.{UnitView, event, begun}
 use Rattle.tk_engine_unit_events.specs.Shapes.{ShapeView, frame, keys_in, may_emit}
 use Rattle.tk_engine_hierarchical.specs.StaticSteps.{FitsPlan}
-use Rattle.tk_engine_hierarchical.specs.steps.StaticSteps.{MayStepAs}
+use Rattle.tk_engine_hierarchical.specs.steps.{MayStepAs}
 use Rattle.tk_engine_unit_events.specs.Units.{RunsUnit}
 use Rattle.tk_engine_hierarchical.specs.TreeRuns.{FinishesNode, PlanState, Publishes}
 use Rattle.tk_engine_hierarchical.specs.TreeRuns.{RunsBody, RunsForest, RunsNode, RunsTree}

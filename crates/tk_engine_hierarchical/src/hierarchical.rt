@@ -9,7 +9,7 @@ ghost use Rattle.tk_plan.specs.Trees.{IsForest, forest, tree_of};
 ghost use Rattle.tk_engine_unit_events.specs.Shapes.{count_units, frame, keys_in};
 ghost use Rattle.tk_engine_unit_events.specs.Standing.{IsComplete};
 ghost use Rattle.tk_engine_hierarchical.specs.StaticSteps.{FitsPlan};
-ghost use Rattle.tk_engine_hierarchical.specs.steps.StaticSteps.{MayRun};
+ghost use Rattle.tk_engine_hierarchical.specs.steps.{MayRun};
 ghost use Rattle.tk_engine_hierarchical.specs.TreeRuns.{RunsForest, RunsNode, RunsTree, RunsUnitTree, test_rules};
 
 use crate::clocks::EventClock;

@@ -5,7 +5,7 @@ use Rattle.std.specs.Option.{option_or}
 use Rattle.tk_ids.specs.declared.descriptors.Descriptor.{Descriptor}
 use Rattle.tk_plan.specs.declared.trees.nodes.NumberedNode.{NumberedNode}
 use Rattle.tk_plan_laws.specs.Scripts.{HasKey, key_of, position}
-use Rattle.tk_engine_scripted.specs.steps.Keys.{key_in, key_found}
+use Rattle.tk_engine_scripted.specs.steps.{key_in, key_found}
 
 -- one registration more
 pub key_in_more : (base : ℕ) (known : List ℕ) (n node : ℕ) → key_in base (known ++ n ∷ []) node ≡ option_or (key_in base known node) (if n == node then Some (base + length known) else None)

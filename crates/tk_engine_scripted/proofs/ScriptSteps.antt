@@ -34,8 +34,7 @@ use Rattle.tk_plan_laws.specs.Scripts.{ArePlayable, IsPlayable, HasKey, id_at, i
 use Rattle.tk_plan_laws.specs.Laws.{ScriptsArePlayable, NodesAreFound}
 use Rattle.tk_engine_execute.specs.Engines.{IsSameSender}
 use Rattle.tk_engine_execute.proofs.Emitted.{registrations-append}
-use Rattle.tk_engine_scripted.specs.steps.Keys.{key_in, noted, key_found}
-use Rattle.tk_engine_scripted.specs.steps.Plays.{IsPlayed, IsRegistered, IsEmitted, begun, next_key}
+use Rattle.tk_engine_scripted.specs.steps.{key_in, noted, key_found, IsPlayed, IsRegistered, IsEmitted, begun, next_key}
 use Rattle.tk_engine_scripted.proofs.RegisteredKeys.{key_in_more, has_its_key, is_found}
 use Rattle.tk_queue_session.proofs.KnownKeys.{desc_in-append}
 

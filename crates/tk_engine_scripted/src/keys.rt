@@ -1,6 +1,6 @@
 //! The keys of the nodes that a unit has registered.
 ghost use Rattle.std.specs.Prelude.{◌≡◌, ◌⊎◌, ◌<◌, ℕ, None, Some, IsSome, OnOk};
-ghost use Rattle.tk_engine_scripted.specs.steps.Keys.{kept, noted, key_found};
+ghost use Rattle.tk_engine_scripted.specs.steps.{kept, noted, key_found};
 
 use indexmap::IndexMap;
 use std::alloc::{AllocError, Global};

@@ -8,9 +8,8 @@ ghost use Rattle.tk_plan.specs.Numbers.{IsNumbered};
 ghost use Rattle.tk_plan.specs.Planned.{IsPlanned};
 ghost use Rattle.tk_plan.specs.Trees.{forest};
 ghost use Rattle.tk_plan_laws.specs.Scripts.{may, played};
-ghost use Rattle.tk_engine_scripted.specs.steps.Keys.{kept};
+ghost use Rattle.tk_engine_scripted.specs.steps.{kept, IsPlayed, IsRegistered, IsEmitted, begun, next_key};
 ghost use Rattle.tk_engine_scripted.specs.Plays.{IsPlayFault};
-ghost use Rattle.tk_engine_scripted.specs.steps.Plays.{IsPlayed, IsRegistered, IsEmitted, begun, next_key};
 
 use crate::keys::Keys;
 use std::alloc::Global;

@@ -34,7 +34,7 @@ use Rattle.tk_engine_unit_events.specs.Taken.{IsTaken}
 use Rattle.tk_engine_unit_events.specs.Refusals.{ChildStart, HasInnermost, HasRefused, IsChildCause}
 use Rattle.tk_engine_unit_events.specs.Refusals.{IsEmitCause, IsInnermostKey}
 use Rattle.tk_engine_unit_events.specs.UnitSteps.{UnitView, child_request}
-use Rattle.tk_engine_unit_events.specs.steps.Taken.{IsNoText, IsNotedChild, IsOwnCause, IsSinkCause}
+use Rattle.tk_engine_unit_events.specs.steps.{IsNoText, IsNotedChild, IsOwnCause, IsSinkCause}
 use Rattle.tk_engine_unit_events.specs.declared.running_keys.RunningKey.{RunningKey}
 use Rattle.tk_engine_unit_events.proofs.Children.{HasRegistered, first_id}
 use Rattle.tk_engine_unit_events.proofs.UnitStates.{cancel, static_id}

@@ -32,7 +32,7 @@ use Rattle.tk_engine_unit_events.specs.Covered.{AreCovered}
 use Rattle.tk_ids.specs.IdText.{IsBelow}
 use Rattle.tk_engine_unit_events.specs.Units.{HasPlayed, UnitKeys, StepsAs}
 use Rattle.tk_engine_unit_events.specs.Events.{HasRun, HaveIds, IsNesting, IsRunning, progress}
-use Rattle.tk_engine_unit_events.specs.steps.Events.{HasInnermostParent, HasParentAmong, MayStart}
+use Rattle.tk_engine_unit_events.specs.steps.{HasInnermostParent, HasParentAmong, MayStart}
 use Rattle.tk_engine_unit_events.specs.RegisteredIds.{is_registered}
 use Rattle.tk_engine_unit_events.specs.UnitSteps.{publishes}
 use Rattle.tk_engine_unit_events.specs.declared.running_keys.RunningKey.{RunningKey}

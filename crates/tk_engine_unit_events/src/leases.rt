@@ -10,10 +10,9 @@ ghost use Rattle.tk_engine_unit_events.specs.UnitSteps.{child_request};
 ghost use Rattle.tk_engine_unit_events.specs.Running.{with_id};
 ghost use Rattle.tk_engine_unit_events.specs.Shapes.{frame};
 ghost use Rattle.tk_engine_unit_events.specs.Standing.{StandsAt};
-ghost use Rattle.tk_engine_unit_events.specs.steps.Standing.{unit_view};
+ghost use Rattle.tk_engine_unit_events.specs.steps.{unit_view, IsNoText, IsNotedChild, IsOwnCause, IsRegistrationCause, IsSinkCause};
 ghost use Rattle.tk_engine_unit_events.specs.Taken.{IsFaultOfTaken};
 ghost use Rattle.tk_engine_unit_events.specs.Refusals.{IsEmitCause};
-ghost use Rattle.tk_engine_unit_events.specs.steps.Taken.{IsNoText, IsNotedChild, IsOwnCause, IsRegistrationCause, IsSinkCause};
 
 use crate::running_keys::RunningKey;
 use crate::shapes::Shape;

@@ -11,7 +11,7 @@ ghost use Rattle.tk_engine_unit_events.specs.Shapes.{count_units, frame, keys_in
 ghost use Rattle.tk_engine_unit_events.specs.Standing.{IsComplete, StandsAt};
 ghost use Rattle.tk_engine_unit_events.specs.Refusals.{HasRefused, IsChildCause, IsInnermostCause, IsPublishCause, IsStartCause, IsTurnCause, child_start};
 ghost use Rattle.tk_engine_unit_events.specs.Taken.{IsFaultOfTaken, IsTaken};
-ghost use Rattle.tk_engine_unit_events.specs.steps.Standing.{unit_view};
+ghost use Rattle.tk_engine_unit_events.specs.steps.{unit_view};
 ghost use Rattle.tk_engine_unit_events.specs.declared.running_keys.RunningKey.{RunningKey};
 
 use crate::leases::Lease;

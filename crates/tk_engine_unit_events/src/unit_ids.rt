@@ -5,12 +5,11 @@ ghost use Rattle.tk_ids.specs.Table.{HasId as TableHasId, ids_of};
 ghost use Rattle.tk_engine_execute.specs.declared.engines.UnitFault.TheVariants.{Sink as Sunk};
 ghost use Rattle.tk_engine_execute.specs.declared.sinks.SinkFault.{SinkFault};
 ghost use Rattle.tk_engine_unit_events.specs.Covered.{IsKeyBelow};
-ghost use Rattle.tk_engine_unit_events.specs.steps.Events.{HasInnermostParent, HasParentAmong, MayStart};
+ghost use Rattle.tk_engine_unit_events.specs.steps.{HasInnermostParent, HasParentAmong, MayStart, IsLongCause, IsNoText, IsNotedChild, IsOwnCause};
 ghost use Rattle.tk_engine_unit_events.specs.RegisteredIds.{is_registered};
 ghost use Rattle.tk_engine_unit_events.specs.Running.{keys_of, with_id, with_ids};
 ghost use Rattle.tk_engine_unit_events.specs.Shapes.{frame};
 ghost use Rattle.tk_engine_unit_events.specs.Taken.{IsFaultOfTaken};
-ghost use Rattle.tk_engine_unit_events.specs.steps.Taken.{IsLongCause, IsNoText, IsNotedChild, IsOwnCause};
 
 use crate::running_keys::{RunningKey, running_id};
 use crate::shapes::Shape;

@@ -10,7 +10,7 @@ use Rattle.tk_expectations.specs.declared.expectations.Expect.{Expect}
 use Rattle.tk_expectations.specs.declared.failures.Failure.{Failure}
 use Rattle.tk_expectations.specs.declared.failures.Failure.TheVariants as failures
 use Rattle.tk_expectations.specs.Expectations.{IsJudged, OfHolders, RefusesConditions}
-use Rattle.tk_expectations.specs.steps.Judged.{IsAsked, IsJudgedBy}
+use Rattle.tk_expectations.specs.steps.{IsAsked, IsJudgedBy}
 
 pub as_many : (texts : List (List ℕ)) (cs : List Condition) → AreConditions texts cs
     → length cs ≡ length texts

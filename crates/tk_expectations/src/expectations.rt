@@ -12,7 +12,7 @@ ghost use Rattle.tk_record.specs.Statistics.{nothing_expected};
 ghost use Rattle.testkit_questions.specs.Explanations.{ExplainsMatch};
 ghost use Rattle.testkit_questions.specs.Questions.{AreConditions, Expecting};
 ghost use Rattle.tk_expectations.specs.Expectations.{ComparesReport, IsJudged, IsSpaced, OfConditions, OfHolders, OfWords, RefusesConditions, RefusesWords, asked_of, texts_of};
-ghost use Rattle.tk_expectations.specs.steps.Judged.{IsAsked, IsJudgedBy, IsNoAnswer};
+ghost use Rattle.tk_expectations.specs.steps.{IsAsked, IsJudgedBy, IsNoAnswer};
 
 use crate::bad_texts::{bad_condition, bad_word};
 use crate::descriptor_events::events_of_named;

@@ -3,7 +3,7 @@ use Rattle.std.proofs.Common.{◌≡◌, ℕ, Bool, List, ap, sym, subst}
 use Rattle.std.specs.Prelude.{Option, Result, Ok, Err}
 use Rattle.tk_record.specs.Recorded.{Recorded}
 use Rattle.tk_explanations.specs.Explained.{IsExplained}
-use Rattle.tk_explanations.specs.steps.Explained.{IsWritten}
+use Rattle.tk_explanations.specs.steps.{IsWritten}
 use Rattle.tk_explanations.specs.Rows.{AsText, rows_text}
 use Rattle.tk_explanations.specs.declared.faults.ExplainFault.{ExplainFault}
 use Rattle.tk_explanations.specs.declared.faults.ExplainFault.TheVariants.{Device, Memory}

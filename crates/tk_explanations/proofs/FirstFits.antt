@@ -12,7 +12,7 @@ use Rattle.tk_query.specs.Matches.{HoldsSomewhere}
 use Rattle.tk_query.specs.declared.answers.Loose.TheVariants.{No}
 use Rattle.tk_query_nearest.specs.Nearness.{IsNearest}
 use Rattle.tk_explanations.specs.MatchRows.{condition_row, near_rows}
-use Rattle.tk_explanations.specs.steps.MatchRows.{AddsRows}
+use Rattle.tk_explanations.specs.steps.{AddsRows}
 use Rattle.tk_explanations.specs.Matches.{AreFirstFits, AreLooseRows}
 use Rattle.tk_explanations.specs.declared.rows.Row.{Row}
 use Rattle.tk_explanations.proofs.RowLemmas.{dropped_all, row_and_more}

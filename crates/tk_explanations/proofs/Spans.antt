@@ -9,7 +9,7 @@ use Rattle.tk_query.specs.ExecutionSteps.{step_at}
 use Rattle.tk_query.specs.Executions.{AreExecutions, IsExecution, IsSkip, IsSpan}
 use Rattle.tk_query.specs.declared.execution.Execution.{Execution}
 use Rattle.tk_explanations.specs.Collisions.{StartsAt}
-use Rattle.tk_explanations.specs.steps.Collisions.{is_from}
+use Rattle.tk_explanations.specs.steps.{is_from}
 
 -- what a search finds is in the list and passes
 found_some : {X : Type 0} (p : X → Bool) (xs : List X) (x : X) → find p xs ≡ Some x → Contains xs x × (p x ≡ true)

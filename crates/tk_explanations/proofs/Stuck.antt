@@ -14,7 +14,7 @@ use Rattle.tk_query.proofs.AskedLemmas.{AreFlags, fits_clear}
 use Rattle.tk_query_nearest.specs.Nearness.{IsNearest}
 use Rattle.tk_query_conditions.specs.CondOf.{cond_of}
 use Rattle.tk_explanations.specs.MatchRows.{condition_row, found_rows, near_rows}
-use Rattle.tk_explanations.specs.steps.MatchRows.{AddsRows}
+use Rattle.tk_explanations.specs.steps.{AddsRows}
 use Rattle.tk_explanations.specs.Matches.{AreStuckRows, IsLastFit, after, early_rows, last_of}
 use Rattle.tk_explanations.specs.declared.rows.Row.{Row}
 use Rattle.tk_explanations.proofs.RowLemmas.{row_and_more}

@@ -8,8 +8,7 @@ ghost use Rattle.tk_query.specs.Executions.{AreExecutions};
 ghost use Rattle.tk_query.specs.declared.execution.Execution.{Execution};
 ghost use Rattle.tk_explanations.specs.Explained.{IsExplained};
 ghost use Rattle.tk_explanations.specs.Collisions.{AreCollisionRows, ExplainsExclusive, IsExclusiveExplanation, StartsAt, held_rows, holder_rows, names_some, overlap_rows, writers_said};
-ghost use Rattle.tk_explanations.specs.steps.Collisions.{is_flagged, is_from};
-ghost use Rattle.tk_explanations.specs.steps.MatchRows.{AddsRows};
+ghost use Rattle.tk_explanations.specs.steps.{is_flagged, is_from, AddsRows};
 
 use crate::explanations::Explanation;
 use crate::faults::ExplainFault;

@@ -10,7 +10,7 @@ ghost use Rattle.tk_record.specs.Record.{entry_of_view};
 ghost use Rattle.tk_query_lifecycle.specs.Lifecycle.{has_event, is_event};
 ghost use Rattle.tk_explanations.specs.Causes.{parent_text, registration};
 ghost use Rattle.tk_explanations.specs.EventSearches.{event_at, first_before, has_id_text, has_parent_text, last_before, registers_id, starts_child, starts_to_run};
-ghost use Rattle.tk_explanations.specs.steps.EventTests.{passes};
+ghost use Rattle.tk_explanations.specs.steps.{passes};
 
 use crate::sentences::EventAt;
 use std::alloc::{AllocError, Global};

@@ -3,10 +3,10 @@ ghost use Rattle.std.specs.Prelude.{◌≡◌, ◌++◌, ◌∷◌, Some, true, 
 ghost use Rattle.std.specs.Fmt.{decimal};
 ghost use Rattle.tk_query.specs.AnswerTexts.{blank};
 ghost use Rattle.std.specs.Io.KnownBytes.{Appends};
-ghost use Rattle.tk_streams.specs.Pieces.{Adds, outgoing};
+ghost use Rattle.tk_streams.specs.Pieces.{AddsTo};
 ghost use Rattle.tk_streams.specs.Stream.{AppendsPrefix};
 ghost use Rattle.tk_record.specs.Record.{entry_of_view};
-ghost use Rattle.tk_explanations.specs.steps.Explained.{IsWritten};
+ghost use Rattle.tk_explanations.specs.steps.{IsWritten};
 ghost use Rattle.tk_explanations.specs.Rows.{event_row, note_text, row_line, row_text, rows_text, span_text, writers_text};
 
 use crate::faults::ExplainFault;
@@ -20,8 +20,7 @@ use tk_record_text::put_text;
 use tk_streams::{Broken, Piece, Target};
 
 fn put_note<T: Target>(piece: &mut Piece, target: &mut T, note: &Note)
-    ensures { Adds (outgoing (T.contents target.old) (T.broken target.old) piece.old)
-        (outgoing (T.contents target.new) (T.broken target.new) piece.new)
+    ensures { AddsTo T.contents T.broken target.old target.new piece.old piece.new
         (note_text note.now) }
 {
     match note {
@@ -46,8 +45,7 @@ fn put_view_row<T: Target>(
     view: &EntryView<'_>,
     note: &Note,
 )
-    ensures { Adds (outgoing (T.contents target.old) (T.broken target.old) piece.old)
-        (outgoing (T.contents target.new) (T.broken target.new) piece.new)
+    ensures { AddsTo T.contents T.broken target.old target.new piece.old piece.new
         (event_row «record».now position (Some (entry_of_view view.now)) note.now) }
 {
     piece.put(target, b"    ");
@@ -65,8 +63,7 @@ fn put_event_row<T: Target>(
     position: usize,
     note: &Note,
 )
-    ensures { Adds (outgoing (T.contents target.old) (T.broken target.old) piece.old)
-        (outgoing (T.contents target.new) (T.broken target.new) piece.new)
+    ensures { AddsTo T.contents T.broken target.old target.new piece.old piece.new
         (event_row «record».now position (slice_get «record».now.entries position) note.now) }
 {
     if let Some(view) = record.entry(position) {
@@ -75,8 +72,7 @@ fn put_event_row<T: Target>(
 }
 
 fn put_condition<T: Target>(piece: &mut Piece, target: &mut T, number: usize, text: &str)
-    ensures { Adds (outgoing (T.contents target.old) (T.broken target.old) piece.old)
-        (outgoing (T.contents target.new) (T.broken target.new) piece.new)
+    ensures { AddsTo T.contents T.broken target.old target.new piece.old piece.new
         (decimal number ++ blank ∷ text.now) }
 {
     put_number(piece, target, number as u64);
@@ -85,8 +81,7 @@ fn put_condition<T: Target>(piece: &mut Piece, target: &mut T, number: usize, te
 }
 
 fn put_counts<T: Target>(piece: &mut Piece, target: &mut T, conditions: usize, events: usize)
-    ensures { Adds (outgoing (T.contents target.old) (T.broken target.old) piece.old)
-        (outgoing (T.contents target.new) (T.broken target.new) piece.new)
+    ensures { AddsTo T.contents T.broken target.old target.new piece.old piece.new
         (decimal conditions ++ codes " conditions, " ++ decimal events ++ codes " events") }
 {
     put_number(piece, target, conditions as u64);
@@ -96,8 +91,7 @@ fn put_counts<T: Target>(piece: &mut Piece, target: &mut T, conditions: usize, e
 }
 
 fn put_more<T: Target>(piece: &mut Piece, target: &mut T, count: usize)
-    ensures { Adds (outgoing (T.contents target.old) (T.broken target.old) piece.old)
-        (outgoing (T.contents target.new) (T.broken target.new) piece.new)
+    ensures { AddsTo T.contents T.broken target.old target.new piece.old piece.new
         (codes "    and " ++ decimal count ++ codes " more") }
 {
     piece.put(target, b"    and ");
@@ -107,8 +101,7 @@ fn put_more<T: Target>(piece: &mut Piece, target: &mut T, count: usize)
 
 // Adds the descriptor of an execution, and its first and its last position.
 fn put_span<T: Target>(piece: &mut Piece, target: &mut T, record: &Record, execution: Execution)
-    ensures { Adds (outgoing (T.contents target.old) (T.broken target.old) piece.old)
-        (outgoing (T.contents target.new) (T.broken target.new) piece.new)
+    ensures { AddsTo T.contents T.broken target.old target.new piece.old piece.new
         (span_text «record».now execution) }
 {
     put_descriptor_of(piece, target, record, execution.key);
@@ -139,8 +132,7 @@ fn put_overlap<T: Target>(
     second: Execution,
     said: Writers,
 )
-    ensures { Adds (outgoing (T.contents target.old) (T.broken target.old) piece.old)
-        (outgoing (T.contents target.new) (T.broken target.new) piece.new)
+    ensures { AddsTo T.contents T.broken target.old target.new piece.old piece.new
         (row_text «record».now (Row.Overlap first second said)) }
 {
     put_span(piece, target, record, first);
@@ -158,8 +150,7 @@ fn put_overlap_over<T: Target>(
     second: Execution,
     name: &Text,
 )
-    ensures { Adds (outgoing (T.contents target.old) (T.broken target.old) piece.old)
-        (outgoing (T.contents target.new) (T.broken target.new) piece.new)
+    ensures { AddsTo T.contents T.broken target.old target.new piece.old piece.new
         (row_text «record».now (Row.OverlapOver first second name.now)) }
 {
     put_span(piece, target, record, first);
@@ -170,8 +161,7 @@ fn put_overlap_over<T: Target>(
 }
 
 fn put_executions<T: Target>(piece: &mut Piece, target: &mut T, number: usize)
-    ensures { Adds (outgoing (T.contents target.old) (T.broken target.old) piece.old)
-        (outgoing (T.contents target.new) (T.broken target.new) piece.new)
+    ensures { AddsTo T.contents T.broken target.old target.new piece.old piece.new
         (codes "    " ++ decimal number ++ codes " executions") }
 {
     piece.put(target, b"    ");
@@ -180,8 +170,7 @@ fn put_executions<T: Target>(piece: &mut Piece, target: &mut T, number: usize)
 }
 
 fn put_row<T: Target>(piece: &mut Piece, target: &mut T, record: &Record, row: &Row)
-    ensures { Adds (outgoing (T.contents target.old) (T.broken target.old) piece.old)
-        (outgoing (T.contents target.new) (T.broken target.new) piece.new)
+    ensures { AddsTo T.contents T.broken target.old target.new piece.old piece.new
         (row_text «record».now row.now) }
 {
     match row {
@@ -204,8 +193,7 @@ fn put_row<T: Target>(piece: &mut Piece, target: &mut T, record: &Record, row: &
 
 /// Adds the rows, a line each.
 pub(crate) fn put_rows<T: Target>(piece: &mut Piece, target: &mut T, record: &Record, rows: &[Row])
-    ensures { Adds (outgoing (T.contents target.old) (T.broken target.old) piece.old)
-        (outgoing (T.contents target.new) (T.broken target.new) piece.new)
+    ensures { AddsTo T.contents T.broken target.old target.new piece.old piece.new
         (rows_text «record».now rows.now) }
 {
     'rows: for row in rows {

@@ -6,7 +6,7 @@ ghost use Rattle.tk_query.specs.Asked.{fits};
 ghost use Rattle.tk_query.specs.InOrder.{CanHoldInTurn, IsFirstStuck, IsLeastInTurn};
 ghost use Rattle.tk_query.specs.Matches.{IsInOrder};
 ghost use Rattle.tk_explanations.specs.Explained.{IsExplained};
-ghost use Rattle.tk_explanations.specs.steps.MatchRows.{AddsRows};
+ghost use Rattle.tk_explanations.specs.steps.{AddsRows};
 ghost use Rattle.tk_explanations.specs.Matches.{AreInOrderRows, AreStuckRows, ExplainsInOrder, IsInOrderExplanation, IsLastFit, after, early_rows, last_of};
 
 use crate::explanations::Explanation;

@@ -3,7 +3,7 @@ ghost use Rattle.std.specs.Prelude.{◌≡◌, true, OnErr, OnOk, IsErrOf};
 ghost use Rattle.std.specs.Io.KnownBytes.{Appends};
 ghost use Rattle.std.specs.List.{flat_map};
 ghost use Rattle.tk_streams.specs.Stream.{AppendsPrefix};
-ghost use Rattle.tk_streams.specs.Pieces.{Adds, outgoing};
+ghost use Rattle.tk_streams.specs.Pieces.{AddsTo};
 ghost use Rattle.tk_explanations.specs.Explained.{IsExplained};
 ghost use Rattle.tk_explanations.specs.Lists.{ExplainsExecutions, execution_head, listed_execution};
 
@@ -36,8 +36,7 @@ fn put_execution<T: Target>(
     record: &Record,
     execution: Execution,
 )
-    ensures { Adds (outgoing (T.contents target.old) (T.broken target.old) piece.old)
-        (outgoing (T.contents target.new) (T.broken target.new) piece.new)
+    ensures { AddsTo T.contents T.broken target.old target.new piece.old piece.new
         (listed_execution «record».now execution) }
 {
     piece.put(target, head_of(execution).as_bytes());
@@ -51,8 +50,7 @@ fn put_executions<T: Target>(
     record: &Record,
     executions: ExecutionIter<'_>,
 )
-    ensures { Adds (outgoing (T.contents target.old) (T.broken target.old) piece.old)
-        (outgoing (T.contents target.new) (T.broken target.new) piece.new)
+    ensures { AddsTo T.contents T.broken target.old target.new piece.old piece.new
         (flat_map (listed_execution «record».now) executions.entry) }
 {
     'executions: for execution in executions {

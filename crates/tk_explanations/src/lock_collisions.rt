@@ -4,7 +4,7 @@ ghost use Rattle.tk_query_locks.specs.LockAnswers.{IsLockAnswer};
 ghost use Rattle.tk_record.specs.Entries.{desc};
 ghost use Rattle.tk_explanations.specs.Explained.{IsExplained};
 ghost use Rattle.tk_explanations.specs.LockCollisions.{AreLockRows, ExplainsLocks, IsLockExplanation, has_lock, holding_row, holds_lock};
-ghost use Rattle.tk_explanations.specs.steps.MatchRows.{AddsRows};
+ghost use Rattle.tk_explanations.specs.steps.{AddsRows};
 
 use crate::collisions::{add_overlap, starting_at_both};
 use crate::explanations::Explanation;

@@ -5,7 +5,7 @@ ghost use Rattle.tk_query.specs.InOrder.{IsNextFit};
 ghost use Rattle.tk_query.specs.Matches.{IsFirstNowhere, IsLoose};
 ghost use Rattle.tk_query.specs.declared.answers.Loose.TheVariants.{Yes, No};
 ghost use Rattle.tk_explanations.specs.Explained.{IsExplained};
-ghost use Rattle.tk_explanations.specs.steps.MatchRows.{AddsRows};
+ghost use Rattle.tk_explanations.specs.steps.{AddsRows};
 ghost use Rattle.tk_explanations.specs.Matches.{AreFirstFits, AreLooseRows, ExplainsLoosely, IsLooseExplanation};
 
 use crate::explanations::Explanation;

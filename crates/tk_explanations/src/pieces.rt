@@ -1,7 +1,7 @@
 //! The parts of rows, written in pieces.
 ghost use Rattle.std.specs.Fmt.{decimal};
 ghost use Rattle.std.specs.Prelude.{◌≡◌, Some};
-ghost use Rattle.tk_streams.specs.Pieces.{Adds, outgoing};
+ghost use Rattle.tk_streams.specs.Pieces.{AddsTo};
 ghost use Rattle.tk_record.specs.Entries.{desc};
 ghost use Rattle.tk_record.specs.Record.{entry_of_view};
 ghost use Rattle.tk_explanations.specs.DescriptorTexts.{quoted_name};
@@ -14,8 +14,7 @@ use tk_streams::{Piece, ShortLine, Target};
 
 /// Adds a number.
 pub(crate) fn put_number<T: Target>(piece: &mut Piece, target: &mut T, number: u64)
-    ensures { Adds (outgoing (T.contents target.old) (T.broken target.old) piece.old)
-        (outgoing (T.contents target.new) (T.broken target.new) piece.new)
+    ensures { AddsTo T.contents T.broken target.old target.new piece.old piece.new
         (decimal number) }
 {
     let mut digits = ShortLine::new();
@@ -25,8 +24,7 @@ pub(crate) fn put_number<T: Target>(piece: &mut Piece, target: &mut T, number: u
 
 /// Adds the id of a key's descriptor.
 pub(crate) fn put_id<T: Target>(piece: &mut Piece, target: &mut T, record: &Record, key: u32)
-    ensures { Adds (outgoing (T.contents target.old) (T.broken target.old) piece.old)
-        (outgoing (T.contents target.new) (T.broken target.new) piece.new)
+    ensures { AddsTo T.contents T.broken target.old target.new piece.old piece.new
         (id_field (desc «record».now key)) }
 {
     if let Some(descriptor) = record.describe(key) {
@@ -35,8 +33,7 @@ pub(crate) fn put_id<T: Target>(piece: &mut Piece, target: &mut T, record: &Reco
 }
 
 fn put_descriptor<T: Target>(piece: &mut Piece, target: &mut T, descriptor: &Descriptor)
-    ensures { Adds (outgoing (T.contents target.old) (T.broken target.old) piece.old)
-        (outgoing (T.contents target.new) (T.broken target.new) piece.new)
+    ensures { AddsTo T.contents T.broken target.old target.new piece.old piece.new
         (descriptor_text (Some descriptor.now)) }
 {
     put_text(piece, target, descriptor.id.as_text().as_str());
@@ -51,8 +48,7 @@ pub(crate) fn put_descriptor_of<T: Target>(
     record: &Record,
     key: u32,
 )
-    ensures { Adds (outgoing (T.contents target.old) (T.broken target.old) piece.old)
-        (outgoing (T.contents target.new) (T.broken target.new) piece.new)
+    ensures { AddsTo T.contents T.broken target.old target.new piece.old piece.new
         (descriptor_text (desc «record».now key)) }
 {
     if let Some(descriptor) = record.describe(key) {
@@ -61,8 +57,7 @@ pub(crate) fn put_descriptor_of<T: Target>(
 }
 
 fn put_quoted<T: Target>(piece: &mut Piece, target: &mut T, descriptor: &Descriptor)
-    ensures { Adds (outgoing (T.contents target.old) (T.broken target.old) piece.old)
-        (outgoing (T.contents target.new) (T.broken target.new) piece.new)
+    ensures { AddsTo T.contents T.broken target.old target.new piece.old piece.new
         (quoted_name (Some descriptor.now)) }
 {
     piece.put_byte(target, b'"');
@@ -72,8 +67,7 @@ fn put_quoted<T: Target>(piece: &mut Piece, target: &mut T, descriptor: &Descrip
 
 /// Adds the display name of a key's descriptor in double quotes.
 pub(crate) fn put_name<T: Target>(piece: &mut Piece, target: &mut T, record: &Record, key: u32)
-    ensures { Adds (outgoing (T.contents target.old) (T.broken target.old) piece.old)
-        (outgoing (T.contents target.new) (T.broken target.new) piece.new)
+    ensures { AddsTo T.contents T.broken target.old target.new piece.old piece.new
         (quoted_name (desc «record».now key)) }
 {
     if let Some(descriptor) = record.describe(key) {
@@ -88,8 +82,7 @@ pub(crate) fn put_event_text<T: Target>(
     record: &Record,
     view: &EntryView<'_>,
 )
-    ensures { Adds (outgoing (T.contents target.old) (T.broken target.old) piece.old)
-        (outgoing (T.contents target.new) (T.broken target.new) piece.new)
+    ensures { AddsTo T.contents T.broken target.old target.new piece.old piece.new
         (event_text «record».now (entry_of_view view.now)) }
 {
     put_event(piece, target, view);

@@ -1,7 +1,7 @@
 //! The sentences about a lifecycle, written in pieces.
 ghost use Rattle.std.specs.Fmt.{decimal};
 ghost use Rattle.std.specs.Prelude.{◌≡◌, ◌++◌, codes};
-ghost use Rattle.tk_streams.specs.Pieces.{Adds, outgoing};
+ghost use Rattle.tk_streams.specs.Pieces.{AddsTo};
 ghost use Rattle.tk_record.specs.Entries.{desc};
 ghost use Rattle.tk_query_lifecycle.specs.LifecycleTexts.{rule_text};
 ghost use Rattle.tk_explanations.specs.Rows.{descriptor_text};
@@ -31,8 +31,7 @@ fn phrase_of(kind: Kind) -> &'static str
 }
 
 fn put_phrase_at<T: Target>(piece: &mut Piece, target: &mut T, event: EventAt)
-    ensures { Adds (outgoing (T.contents target.old) (T.broken target.old) piece.old)
-        (outgoing (T.contents target.new) (T.broken target.new) piece.new)
+    ensures { AddsTo T.contents T.broken target.old target.new piece.old piece.new
         (phrase_at event) }
 {
     piece.put(target, phrase_of(event.kind).as_bytes());
@@ -42,8 +41,7 @@ fn put_phrase_at<T: Target>(piece: &mut Piece, target: &mut T, event: EventAt)
 
 // Adds the descriptor of a key, and a text.
 fn put_subject<T: Target>(piece: &mut Piece, target: &mut T, record: &Record, key: u32, text: &str)
-    ensures { Adds (outgoing (T.contents target.old) (T.broken target.old) piece.old)
-        (outgoing (T.contents target.new) (T.broken target.new) piece.new)
+    ensures { AddsTo T.contents T.broken target.old target.new piece.old piece.new
         (descriptor_text (desc «record».now key) ++ text.now) }
 {
     put_descriptor_of(piece, target, record, key);
@@ -51,8 +49,7 @@ fn put_subject<T: Target>(piece: &mut Piece, target: &mut T, record: &Record, ke
 }
 
 fn put_event_phrase<T: Target>(piece: &mut Piece, target: &mut T, record: &Record, event: EventAt)
-    ensures { Adds (outgoing (T.contents target.old) (T.broken target.old) piece.old)
-        (outgoing (T.contents target.new) (T.broken target.new) piece.new)
+    ensures { AddsTo T.contents T.broken target.old target.new piece.old piece.new
         (event_phrase «record».now event) }
 {
     put_descriptor_of(piece, target, record, event.key);
@@ -61,8 +58,7 @@ fn put_event_phrase<T: Target>(piece: &mut Piece, target: &mut T, record: &Recor
 }
 
 fn put_static_id<T: Target>(piece: &mut Piece, target: &mut T, record: &Record, key: u32)
-    ensures { Adds (outgoing (T.contents target.old) (T.broken target.old) piece.old)
-        (outgoing (T.contents target.new) (T.broken target.new) piece.new)
+    ensures { AddsTo T.contents T.broken target.old target.new piece.old piece.new
         (cause_text «record».now (Cause.StaticId key)) }
 {
     piece.put(target, b"a static descriptor has its id, with the name ");
@@ -70,8 +66,7 @@ fn put_static_id<T: Target>(piece: &mut Piece, target: &mut T, record: &Record, 
 }
 
 fn put_registered_id<T: Target>(piece: &mut Piece, target: &mut T, record: &Record, event: EventAt)
-    ensures { Adds (outgoing (T.contents target.old) (T.broken target.old) piece.old)
-        (outgoing (T.contents target.new) (T.broken target.new) piece.new)
+    ensures { AddsTo T.contents T.broken target.old target.new piece.old piece.new
         (cause_text «record».now (Cause.RegisteredId event)) }
 {
     piece.put(target, b"its id was registered at ");
@@ -81,8 +76,7 @@ fn put_registered_id<T: Target>(piece: &mut Piece, target: &mut T, record: &Reco
 }
 
 fn put_unknown_parent<T: Target>(piece: &mut Piece, target: &mut T, record: &Record, id: &Text)
-    ensures { Adds (outgoing (T.contents target.old) (T.broken target.old) piece.old)
-        (outgoing (T.contents target.new) (T.broken target.new) piece.new)
+    ensures { AddsTo T.contents T.broken target.old target.new piece.old piece.new
         (cause_text «record».now (Cause.UnknownParent id.now)) }
 {
     piece.put(target, b"no descriptor before has the id of its parent, ");
@@ -90,8 +84,7 @@ fn put_unknown_parent<T: Target>(piece: &mut Piece, target: &mut T, record: &Rec
 }
 
 fn put_parent_step<T: Target>(piece: &mut Piece, target: &mut T, record: &Record, event: EventAt)
-    ensures { Adds (outgoing (T.contents target.old) (T.broken target.old) piece.old)
-        (outgoing (T.contents target.new) (T.broken target.new) piece.new)
+    ensures { AddsTo T.contents T.broken target.old target.new piece.old piece.new
         (cause_text «record».now (Cause.ParentStep event)) }
 {
     piece.put(target, b"its parent ");
@@ -99,8 +92,7 @@ fn put_parent_step<T: Target>(piece: &mut Piece, target: &mut T, record: &Record
 }
 
 fn put_parent_idle<T: Target>(piece: &mut Piece, target: &mut T, record: &Record, key: u32)
-    ensures { Adds (outgoing (T.contents target.old) (T.broken target.old) piece.old)
-        (outgoing (T.contents target.new) (T.broken target.new) piece.new)
+    ensures { AddsTo T.contents T.broken target.old target.new piece.old piece.new
         (cause_text «record».now (Cause.ParentIdle key)) }
 {
     piece.put(target, b"its parent ");
@@ -109,8 +101,7 @@ fn put_parent_idle<T: Target>(piece: &mut Piece, target: &mut T, record: &Record
 }
 
 fn put_own_step<T: Target>(piece: &mut Piece, target: &mut T, record: &Record, event: EventAt)
-    ensures { Adds (outgoing (T.contents target.old) (T.broken target.old) piece.old)
-        (outgoing (T.contents target.new) (T.broken target.new) piece.new)
+    ensures { AddsTo T.contents T.broken target.old target.new piece.old piece.new
         (cause_text «record».now (Cause.OwnStep event)) }
 {
     put_phrase_at(piece, target, event);
@@ -118,8 +109,7 @@ fn put_own_step<T: Target>(piece: &mut Piece, target: &mut T, record: &Record, e
 }
 
 fn put_child_ran<T: Target>(piece: &mut Piece, target: &mut T, record: &Record, event: EventAt)
-    ensures { Adds (outgoing (T.contents target.old) (T.broken target.old) piece.old)
-        (outgoing (T.contents target.new) (T.broken target.new) piece.new)
+    ensures { AddsTo T.contents T.broken target.old target.new piece.old piece.new
         (cause_text «record».now (Cause.ChildRan event)) }
 {
     piece.put(target, b"its child ");
@@ -144,8 +134,7 @@ fn rule_word(rule: LifecycleRule) -> &'static str
 }
 
 fn put_rule<T: Target>(piece: &mut Piece, target: &mut T, record: &Record, rule: LifecycleRule)
-    ensures { Adds (outgoing (T.contents target.old) (T.broken target.old) piece.old)
-        (outgoing (T.contents target.new) (T.broken target.new) piece.new)
+    ensures { AddsTo T.contents T.broken target.old target.new piece.old piece.new
         (cause_text «record».now (Cause.Rule rule)) }
 {
     piece.put(target, b"that breaks the rule ");
@@ -153,8 +142,7 @@ fn put_rule<T: Target>(piece: &mut Piece, target: &mut T, record: &Record, rule:
 }
 
 fn put_cause<T: Target>(piece: &mut Piece, target: &mut T, record: &Record, cause: &Cause)
-    ensures { Adds (outgoing (T.contents target.old) (T.broken target.old) piece.old)
-        (outgoing (T.contents target.new) (T.broken target.new) piece.new)
+    ensures { AddsTo T.contents T.broken target.old target.new piece.old piece.new
         (cause_text «record».now cause.now) }
 {
     match cause {
@@ -177,8 +165,7 @@ fn put_breaks<T: Target>(
     event: EventAt,
     cause: &Cause,
 )
-    ensures { Adds (outgoing (T.contents target.old) (T.broken target.old) piece.old)
-        (outgoing (T.contents target.new) (T.broken target.new) piece.new)
+    ensures { AddsTo T.contents T.broken target.old target.new piece.old piece.new
         (sentence_text «record».now (Sentence.Breaks event cause.now)) }
 {
     put_event_phrase(piece, target, record, event);
@@ -193,8 +180,7 @@ fn put_started_at<T: Target>(
     key: u32,
     position: usize,
 )
-    ensures { Adds (outgoing (T.contents target.old) (T.broken target.old) piece.old)
-        (outgoing (T.contents target.new) (T.broken target.new) piece.new)
+    ensures { AddsTo T.contents T.broken target.old target.new piece.old piece.new
         (descriptor_text (desc «record».now key) ++ codes " started at " ++ decimal position
         ++ codes " and never finished") }
 {
@@ -211,8 +197,7 @@ fn put_never_finished<T: Target>(
     key: u32,
     start: Option<EventAt>,
 )
-    ensures { Adds (outgoing (T.contents target.old) (T.broken target.old) piece.old)
-        (outgoing (T.contents target.new) (T.broken target.new) piece.new)
+    ensures { AddsTo T.contents T.broken target.old target.new piece.old piece.new
         (unfinished_text «record».now key start) }
 {
     match start {
@@ -222,8 +207,7 @@ fn put_never_finished<T: Target>(
 }
 
 fn put_succeeded_at<T: Target>(piece: &mut Piece, target: &mut T, record: &Record, event: EventAt)
-    ensures { Adds (outgoing (T.contents target.old) (T.broken target.old) piece.old)
-        (outgoing (T.contents target.new) (T.broken target.new) piece.new)
+    ensures { AddsTo T.contents T.broken target.old target.new piece.old piece.new
         (codes ", but its parent " ++ descriptor_text (desc «record».now event.key)
         ++ codes " succeeded at " ++ decimal event.position) }
 {
@@ -239,8 +223,7 @@ fn put_success<T: Target>(
     record: &Record,
     finish: Option<EventAt>,
 )
-    ensures { Adds (outgoing (T.contents target.old) (T.broken target.old) piece.old)
-        (outgoing (T.contents target.new) (T.broken target.new) piece.new)
+    ensures { AddsTo T.contents T.broken target.old target.new piece.old piece.new
         (success_text «record».now finish) }
 {
     if let Some(event) = finish {
@@ -255,8 +238,7 @@ fn put_never_ran<T: Target>(
     key: u32,
     finish: Option<EventAt>,
 )
-    ensures { Adds (outgoing (T.contents target.old) (T.broken target.old) piece.old)
-        (outgoing (T.contents target.new) (T.broken target.new) piece.new)
+    ensures { AddsTo T.contents T.broken target.old target.new piece.old piece.new
         (sentence_text «record».now (Sentence.NeverRan key finish)) }
 {
     put_descriptor_of(piece, target, record, key);
@@ -271,8 +253,7 @@ pub(crate) fn put_sentence<T: Target>(
     record: &Record,
     sentence: &Sentence,
 )
-    ensures { Adds (outgoing (T.contents target.old) (T.broken target.old) piece.old)
-        (outgoing (T.contents target.new) (T.broken target.new) piece.new)
+    ensures { AddsTo T.contents T.broken target.old target.new piece.old piece.new
         (sentence_text «record».now sentence.now) }
 {
     match sentence {

@@ -12,7 +12,7 @@ use Rattle.std.proofs.lemmas.Map.Text.{is_eq-slice_cmp}
 use Rattle.tk_ids.specs.declared.locks.Lock.{Lock}
 use Rattle.tk_ids.specs.declared.locks.LockMode.{LockMode}
 use Rattle.tk_ids.specs.Locks.{AreLocks, is_before, lock_names, mode_of, mode_with, stronger}
-use Rattle.tk_ids.specs.steps.Locks.{added}
+use Rattle.tk_ids.specs.steps.Table.{added}
 
 abbrev order : List ℕ → List ℕ → Ordering
 order x y = slice_cmp nat_cmp x y

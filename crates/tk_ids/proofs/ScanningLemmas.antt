@@ -12,8 +12,7 @@ use Rattle.tk_ids.specs.declared.scanning.ScanState.TheVariants.{Start, Tag, Val
 use Rattle.tk_ids.specs.IdText.{SegmentView, digits_of}
 use Rattle.tk_ids.specs.Reading.{State, Before, InTag, InValue, Closed, byte_of, is_first_digit, text_step, ends_at, step}
 use Rattle.tk_ids.specs.Answer.{IsBadAt}
-use Rattle.tk_ids.specs.steps.Scanning.{part, part_after, is_ended, state_after, ended_segments}
-use Rattle.tk_ids.specs.steps.Scanning.{KeepsPlainBytes, ArePlain, HasSegments}
+use Rattle.tk_ids.specs.steps.Scanning.{part, part_after, is_ended, state_after, ended_segments, KeepsPlainBytes, ArePlain, HasSegments}
 use Rattle.tk_ids.proofs.ReadingLemmas.{HasRead, read_none, read_more, end_whole, cond_cases, option_map_some}
 use Rattle.tk_ids.proofs.AnswerLemmas.{bad_where_stuck, bad_at_end}
 

@@ -11,7 +11,7 @@ use Rattle.tk_ids.specs.IdText.{SegmentView, digits_of, spelled_by, escaped, seg
 use Rattle.tk_ids.specs.IdSegments.{segments_of, whole_segments}
 use Rattle.tk_ids.specs.PlainText.{plain_segment_text, plain_text}
 use Rattle.tk_ids.specs.LentSegments.{AreTextsOf}
-use Rattle.tk_ids.specs.steps.LentSegments.{HasLengths}
+use Rattle.tk_ids.specs.steps.IdSegments.{HasLengths}
 use Rattle.tk_ids.specs.Machine.{run}
 use Rattle.tk_ids.specs.Reading.{Before, step}
 use Rattle.tk_ids.proofs.IdLemmas.{digits_elim}

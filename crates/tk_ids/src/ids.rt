@@ -1,8 +1,7 @@
 //! Unique ids.
 ghost use Rattle.std.specs.Prelude.{◌≡◌, ℕ, List, MatchOption, IfOk, IfErr, IsOk, OnOk, length, [], ◌∷◌, ◌++◌, ◌<◌, ◌≤◌, ◌⊎◌, IsTrue, ◌↔◌};
 ghost use Rattle.tk_ids.specs.IdText.{EndsInEscape};
-ghost use Rattle.tk_ids.specs.steps.IdSegments.{IsLastSlash, IsCheckedAs};
-ghost use Rattle.tk_ids.specs.steps.Answer.{IsFaultAfter};
+ghost use Rattle.tk_ids.specs.steps.IdSegments.{IsLastSlash, IsCheckedAs, IsFaultAfter};
 
 use crate::id_faults::IdFault;
 use crate::id_fields::IdFields;

@@ -3,7 +3,7 @@ ghost use Rattle.std.specs.Prelude.{◌≡◌, ◌==◌, ◌<◌, ◌++◌, ◌�
 ghost use Rattle.std.specs.Prelude.{◌≤◌, true, false, slice_index_or, bytes_eq};
 ghost use Rattle.tk_ids.specs.declared.locks.Lock.{Lock};
 ghost use Rattle.std.specs.List.Sorted.{IsPartitionPoint};
-ghost use Rattle.tk_ids.specs.steps.Locks.{added};
+ghost use Rattle.tk_ids.specs.steps.Table.{added};
 ghost use Rattle.tk_ids.specs.Locks.{AreLocks, is_before, mode_of, mode_with, stronger};
 
 use crate::texts::Text;

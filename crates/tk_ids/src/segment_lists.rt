@@ -2,7 +2,7 @@
 ghost use Rattle.std.specs.Prelude.{◌≡◌, ◌↔◌, [], ◌∷◌, length, IsTrue, MatchOption, slice_get, ◌⊎◌};
 ghost use Rattle.std.specs.Iterator.{YieldsFirst, item_count};
 ghost use Rattle.tk_ids.specs.Characters.{colon, close_bracket};
-ghost use Rattle.tk_ids.specs.steps.LentSegments.{AreLengths};
+ghost use Rattle.tk_ids.specs.steps.IdSegments.{AreLengths};
 
 use std::marker::Model;
 

@@ -6,7 +6,7 @@ ghost use Rattle.std.specs.Simd.Lanes.{zip2};
 ghost use Rattle.std.specs.List.{items_where_true};
 ghost use Rattle.tk_lanes.specs.Bits.{shares_bit};
 ghost use Rattle.tk_lanes.specs.Lists.{positions};
-ghost use Rattle.tk_lanes.specs.steps.Lists.{block_of};
+ghost use Rattle.tk_lanes.specs.steps.{block_of};
 ghost use Rattle.tk_lanes.specs.Flags.{IsNextSet, IsNoneSet};
 
 use crate::mask_words::equal_in_word;

@@ -14,7 +14,7 @@ use Rattle.tk_plan.specs.Cutting.{Part, Piece, spine_begins, whole_unit, spine_e
 use Rattle.tk_plan.specs.CuttingSteps.{Fits, HasStampAt, HasNode, pieces_of_units}
 use Rattle.tk_plan.specs.CuttingSteps.{piece_of_nodes, begin_events_of_spine}
 use Rattle.tk_plan.specs.CuttingSteps.{end_events_of_spine, begin_events_at, end_events_at}
-use Rattle.tk_plan.specs.steps.CuttingSteps.{AddsParts, keyed}
+use Rattle.tk_plan.specs.steps.{AddsParts, keyed}
 use Rattle.tk_plan.specs.Events.{opening_events, finish_event}
 use Rattle.tk_plan.specs.LockNeeds.{IsNeed}
 use Rattle.tk_plan.specs.declared.units.cuttings.PlanUnit.{PlanUnit}

@@ -7,13 +7,12 @@ use Rattle.tk_plan.specs.declared.trees.nodes.NumberedNode.{NumberedNode}
 use Rattle.tk_plan.specs.declared.units.cuttings.Cutting.{Cutting}
 use Rattle.tk_plan.specs.declared.units.cuttings.PlanUnit.{PlanUnit}
 use Rattle.tk_plan.specs.Trees.{forest, IsForest, contents, number_of, tree}
-use Rattle.tk_plan.specs.steps.Trees.{HasTreeAt}
+use Rattle.tk_plan.specs.steps.{HasTreeAt, AddsParts, keyed}
 use Rattle.tk_plan.specs.Weights.{weight, weights}
 use Rattle.tk_plan.specs.Script.{moves, stamped}
 use Rattle.tk_plan.specs.Cutting.{Piece, Part, spine_begins, whole_unit, spine_ends, moves_of, all_static, root_script, parts_below, from_each, piece, begin_events, end_events, spine_of, units_of, pieces_of, script_of, steps_of}
 use Rattle.tk_plan.specs.CuttingSteps.{Fits, HasStampAt, HasNode, pieces_of_units}
 use Rattle.tk_plan.specs.CuttingSteps.{begin_events_of_spine, end_events_of_spine}
-use Rattle.tk_plan.specs.steps.CuttingSteps.{AddsParts, keyed}
 use Rattle.tk_plan.specs.CutPlans.{IsCut}
 use Rattle.tk_plan.specs.Keys.{lock_keys}
 use Rattle.tk_plan.specs.Planned.{IsWithin, IsNeedOf, piece_asks}

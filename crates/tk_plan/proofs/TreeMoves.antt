@@ -11,9 +11,8 @@ use Rattle.tk_plan.specs.declared.scripts.steps.Move.{Move}
 use Rattle.tk_plan.specs.Trees.{Tree, tree, Forest, no_trees, more, flat, flats, grow, forest, IsForest, IsSplit}
 use Rattle.tk_plan.specs.Script.{each_act, move, opening, registration, moves, moves_below}
 use Rattle.tk_plan.specs.Script.{stamped}
-use Rattle.tk_plan.specs.steps.Script.{IsShort}
+use Rattle.tk_plan.specs.steps.{IsShort, own}
 use Rattle.tk_plan.specs.Weights.{registered, publications, weight, weights}
-use Rattle.tk_plan.specs.steps.Weights.{own}
 
 pub length-acts : {A : Type 0} (act : ℕ → Act) (k i : ℕ) (xs : List A) → length (each_act act k i xs) ≡ length xs
 length-acts act k i [] = refl

@@ -4,7 +4,7 @@ use Rattle.std.proofs.lemmas.Grind.{flat_map-append}
 use Rattle.std.proofs.lemmas.List.Folds.{flat_map-map}
 use Rattle.tk_ids.specs.Characters.{slash}
 use Rattle.tk_plan_code.specs.NodeIds.{own_id, layer_ids, ids_after}
-use Rattle.tk_plan_code.specs.steps.NodeSearches.{ids_of_all, search_in}
+use Rattle.tk_plan_code.specs.steps.{ids_of_all, search_in}
 use Rattle.tk_plan_code.specs.NodeViews.{node_view}
 use Rattle.tk_plan_code.specs.declared.node_ids.Search.{Search}
 use Rattle.tk_plan_code.specs.declared.node_ids.Search.TheVariants.{Found, Left}

@@ -3,7 +3,7 @@ ghost use Rattle.std.specs.Prelude.{◌≡◌, ◌++◌, ◌∷◌, [], IfOk, On
 ghost use Rattle.tk_ids.specs.Characters.{slash};
 ghost use Rattle.tk_ids.specs.IdText.{escaped, segment_text};
 ghost use Rattle.tk_plan_code.specs.NodeIds.{id_at, ids_after};
-ghost use Rattle.tk_plan_code.specs.steps.NodeSearches.{ids_of_all, search_in};
+ghost use Rattle.tk_plan_code.specs.steps.{ids_of_all, search_in};
 
 use crate::plan_nodes::PlanNode;
 use std::alloc::{AllocError, Global};

@@ -16,11 +16,10 @@ use Rattle.tk_plan.specs.Keys.{note_key, note_locks, lock_keys}
 use Rattle.tk_plan.specs.Planned.{is_lawful_node}
 use Rattle.tk_plan.specs.Trees.{contents}
 use Rattle.tk_plan_json_members.specs.Answers.{Refuses}
-use Rattle.tk_plan_json.specs.steps.Refusals.{Faults, Meets}
+use Rattle.tk_plan_json.specs.steps.Fields.{Faults, Meets}
 use Rattle.tk_plan_json_members.specs.Checks.{first}
 use Rattle.tk_plan_json.specs.Progress.{IsNoted}
-use Rattle.tk_plan_json.specs.steps.Progress.{Addition, state, addition_of, IsChecked, IsAdded}
-use Rattle.tk_plan_json.specs.steps.Progress.{HasBelow, IsStarted, room_checks}
+use Rattle.tk_plan_json.specs.steps.Progress.{Addition, state, addition_of, IsChecked, IsAdded, HasBelow, IsStarted, room_checks}
 use Rattle.tk_plan_json.specs.NodeInputs.{NodeInput, segment_of, repeats_key}
 use Rattle.tk_plan_json.specs.Verdicts.{checks, node_check, id_fault, same_segment, is_kind}
 use Rattle.tk_plan_json.specs.declared.read_nodes.ReadNodes.{ReadNodes}

@@ -2,7 +2,7 @@
 use Rattle.std.proofs.Common.{◌≡◌, ℕ, Option, Some, None, option_map, Result, Ok, Err, refl, sym, ap, ◌∙◌}
 use Rattle.tk_plan_json_members.specs.Refusals.{IsFault}
 use Rattle.tk_plan_json.specs.Verdicts.{FaultsAt, MeetsAt, at_node}
-use Rattle.tk_plan_json.specs.steps.Refusals.{Faults, as_node_fault}
+use Rattle.tk_plan_json.specs.steps.Fields.{Faults, as_node_fault}
 use Rattle.tk_plan_json.specs.declared.node_faults.NodeFault.{NodeFault}
 use Rattle.tk_plan_json_members.specs.declared.faults.PlanFault.{PlanFault}
 use Rattle.tk_plan_json_members.specs.declared.faults.PlanFault.TheVariants.{Json, Field, Id, Table, TooManyResources, EntryKeyTwice, TooManyEvents, Deep, Memory}

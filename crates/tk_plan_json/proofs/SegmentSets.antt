@@ -3,7 +3,7 @@ use Rattle.std.proofs.Common.{◌≡◌, ℕ, List, [], ◌∷◌, ◌||◌, ◌
 use Rattle.std.specs.List.{list_any}
 use Rattle.std.specs.Str.{bytes_eq}
 use Rattle.tk_ids.specs.IdText.{SegmentView}
-use Rattle.tk_plan_json.specs.steps.SegmentSets.{segments_of}
+use Rattle.tk_plan_json.specs.steps.Fields.{segments_of}
 use Rattle.tk_plan_json.specs.Verdicts.{same_segment}
 
 any_of : (s : SegmentView) (keys : List (List ℕ × List ℕ)) → list_any (λ y. bytes_eq s.tag y.0 && bytes_eq s.value y.1) keys ≡ list_any (same_segment s) (segments_of keys)

@@ -1,5 +1,3 @@
 pub mod Fields
-pub mod SegmentSets
 pub mod CodeValues
 pub mod Progress
-pub mod Refusals

@@ -1,6 +1,6 @@
 //! Faults of a plan, with the nodes that have them.
 ghost use Rattle.std.specs.Prelude.{◌≡◌, None};
-ghost use Rattle.tk_plan_json.specs.steps.Refusals.{as_node_fault};
+ghost use Rattle.tk_plan_json.specs.steps.Fields.{as_node_fault};
 ghost use Rattle.tk_plan_json_members.specs.declared.faults.PlanFault.TheVariants.{Memory};
 
 use std::alloc::AllocError;

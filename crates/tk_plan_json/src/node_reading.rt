@@ -7,10 +7,9 @@ ghost use Rattle.tk_plan_json_members.specs.Checks.{first};
 ghost use Rattle.tk_plan_json.specs.Verdicts.{checks, located, MeetsAt};
 ghost use Rattle.tk_ids.specs.declared.tables.TheConstants.{MAX_DESCRIPTORS};
 ghost use Rattle.tk_plan_json.specs.declared.limits.TheConstants.{MAX_LEVELS};
-ghost use Rattle.tk_plan_json.specs.steps.Progress.{AddsGroup, AddsTree, NodeGroup, located_of_group, located_of_node, levels_below, levels_from};
+ghost use Rattle.tk_plan_json.specs.steps.Progress.{AddsGroup, AddsTree, NodeGroup, located_of_group, located_of_node, levels_below, levels_from, state, IsDescribed, IsAdded, IsStarted, IsSpanned};
 ghost use Rattle.tk_plan_json.specs.Progress.{IsNoted, HasRead};
-ghost use Rattle.tk_plan_json.specs.steps.Progress.{state, IsDescribed, IsAdded, IsStarted, IsSpanned};
-ghost use Rattle.tk_plan_json.specs.steps.Refusals.{Meets};
+ghost use Rattle.tk_plan_json.specs.steps.Fields.{Meets};
 ghost use Rattle.tk_plan_json.specs.steps.CodeValues.{seen, node_at, array_at};
 ghost use Rattle.tk_plan_json.specs.NodeInputs.{node_inputs, node_inputs_in, root_at, below, grown, id_of, segment_in, segment_of};
 

@@ -19,7 +19,7 @@ pub(crate) struct Siblings {
 impl Model for Siblings {
     ghost use Rattle.std.specs.Prelude.{List, map, ℕ};
     ghost use Rattle.tk_ids.specs.IdText.{SegmentView};
-    ghost use Rattle.tk_plan_json.specs.steps.SegmentSets.{segments_of};
+    ghost use Rattle.tk_plan_json.specs.steps.Fields.{segments_of};
 
     ghost Value = { List SegmentView };
 

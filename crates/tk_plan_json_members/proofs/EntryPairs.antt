@@ -21,7 +21,7 @@ use Rattle.tk_plan_json_members.proofs.Items.{listed_items, array_items}
 use Rattle.tk_events.specs.Event.{is_strictly_increasing, is_before}
 use Rattle.tk_plan_json_members.specs.Checks.{text, pair_of, array_of, items_wrong, item_at}
 use Rattle.tk_plan_json_members.specs.Rows.{entry}
-use Rattle.tk_plan_json_members.specs.steps.MemberValues.{has_key}
+use Rattle.tk_plan_json_members.specs.steps.{has_key}
 use Rattle.tk_plan_json_members.specs.Contents.{json_pair, json_entry, put_all, repeats, repeats_after}
 
 abbrev pub Texts : Type 0

@@ -6,7 +6,7 @@ ghost use Rattle.serde_json.specs.View.{view, members_view};
 ghost use Rattle.tk_plan_json_members.specs.Checks.{escape, item_at, text as is_text, any_array, pair_of, must, may, unknown};
 ghost use Rattle.tk_plan_json_members.specs.Rows.{dtype_row, segment_row, mode_row, isolated_row};
 ghost use Rattle.tk_plan_json_members.specs.Pointers.{pointer, viewed, wrong_at, IsPairOf};
-ghost use Rattle.tk_plan_json_members.specs.steps.Pointers.{IsFirstUnknown};
+ghost use Rattle.tk_plan_json_members.specs.steps.{IsFirstUnknown};
 ghost use Rattle.tk_plan_json_members.specs.Answers.{Reads};
 ghost use Rattle.tk_plan_json_members.specs.Contents.{json_text, json_optional, json_truth, json_dtype, json_concurrent, listed};
 

@@ -12,7 +12,7 @@ ghost use Rattle.tk_plan_json_members.specs.Pointers.{pointer, viewed, wrong_at}
 ghost use Rattle.tk_plan_json_members.specs.Answers.{Reads};
 ghost use Rattle.tk_plan_json_members.specs.Contents.{json_status, listed};
 ghost use Rattle.tk_plan_json_members.specs.MemberValues.{IsNodeResult, AreReports};
-ghost use Rattle.tk_plan_json_members.specs.steps.MemberValues.{has_key, IsOnlyPair, IsReport};
+ghost use Rattle.tk_plan_json_members.specs.steps.{has_key, IsOnlyPair, IsReport};
 
 use crate::faults::PlanFault;
 use crate::json_members::{check_members, optional_member, two_texts};

@@ -11,7 +11,7 @@ use Rattle.tk_plan.specs.Trees.{Tree, tree, Forest, no_trees, more}
 use Rattle.tk_plan.specs.Ids.{ids, ids_below, descriptor, descriptors, descriptors_below}
 use Rattle.tk_plan_json.specs.Verdicts.{same_segment, verdict}
 use Rattle.tk_plan_json.specs.NodeInputs.{NodeInput, NodeArray, segment_in, below, node_inputs, node_inputs_in, children_of, children_in, dynamic_of, dynamic_in, grown, forest_of}
-use Rattle.tk_plan_reading.specs.steps.Tables.{Follow}
+use Rattle.tk_plan_reading.specs.steps.{Follow}
 use Rattle.tk_plan_json.proofs.Distinct.{segment_at, IsApart, AreApart, apart_grown, Among, among_split, among_at, Begins, begins_below, begins_in, same_next, same_self, any_left, any_right, longer}
 use Rattle.tk_ids.proofs.ParentIds.{parent_of-child}
 

@@ -8,8 +8,7 @@ ghost use Rattle.tk_plan_reading.specs.PlanOf.{PlanOf, one_or_two, is_two, takes
 ghost use Rattle.tk_plan_reading.specs.FaultyNodes.{HasNode, faulty_node};
 ghost use Rattle.tk_plan_reading.specs.PlanAnswers.{plan_in, Answered};
 ghost use Rattle.tk_plan_json.specs.Progress.{IsNoted};
-ghost use Rattle.tk_plan_reading.specs.steps.ReadNodes.{IsReadFrom};
-ghost use Rattle.tk_plan_reading.specs.steps.Tables.{Follow};
+ghost use Rattle.tk_plan_reading.specs.steps.{IsReadFrom, Follow};
 ghost use Rattle.tk_plan.specs.Numbers.{numbered};
 ghost use Rattle.tk_plan.specs.Planned.{IsPlanned};
 ghost use Rattle.std.specs.Arc.{arc_value};

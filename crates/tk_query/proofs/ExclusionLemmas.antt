@@ -20,8 +20,7 @@ use Rattle.tk_query.specs.Fitting.{TellFits}
 use Rattle.tk_query.specs.Exclusive.{ArePair, Collide, CollideAt, IsExclusive, SomePair, conflict}
 use Rattle.tk_query.specs.ExecutionSteps.{step_at}
 use Rattle.tk_query.specs.Executions.{IsSpan, IsSkip, IsExecution}
-use Rattle.tk_query.specs.steps.Holders.{AreFinishes, HasOther, HavePair, IsAnswerOf, MeetsNone, Spans}
-use Rattle.tk_query.specs.steps.Holders.{finish_of, holds_any, is_held, is_written, meet, reads, writes}
+use Rattle.tk_query.specs.steps.Holders.{AreFinishes, HasOther, HavePair, IsAnswerOf, MeetsNone, Spans, finish_of, holds_any, is_held, is_written, meet, reads, writes}
 use Rattle.tk_query.specs.Pairing.{HaveSlots, rest_of}
 use Rattle.tk_query.proofs.AnswerIsUnique.{head_or_rest, at_head, after_head}
 use Rattle.tk_query.proofs.AskedLemmas.{AreFlags, step_clear}

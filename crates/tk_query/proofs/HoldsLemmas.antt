@@ -14,7 +14,7 @@ use Rattle.tk_query_conditions.specs.declared.conditions.Condition as real
 use Rattle.tk_query_conditions.specs.declared.conditions.Condition.{Condition}
 use Rattle.tk_query_conditions.specs.Cond.{Conds, Nothing, More, Pairs, NoPairs, MorePairs}
 use Rattle.tk_query_conditions.specs.CondOf.{cond_of, pairs_from}
-use Rattle.tk_query_conditions.specs.steps.CondOf.{conds_from}
+use Rattle.tk_query_conditions.specs.steps.Reader.{conds_from}
 use Rattle.tk_query_conditions.proofs.Members.{cond_of-All, cond_of-Any}
 use Rattle.tk_query_conditions.specs.Reading.{begins_with}
 use Rattle.tk_query.specs.Holds.{has_within, is_engine, pairs_list, cond_holds, all_hold, any_holds, holds}

@@ -13,8 +13,7 @@ use Rattle.tk_query_conditions.specs.declared.conditions.Condition.{Condition}
 use Rattle.tk_query.specs.Holds.{holds}
 use Rattle.tk_lanes.specs.Flags.{IsNextSet, IsNoneSet}
 use Rattle.tk_query.specs.Asked.{fits, IsFirstFit}
-use Rattle.tk_query.specs.steps.Asked.{AreLeft}
-use Rattle.tk_query.specs.steps.Rules.{HoldsWithin}
+use Rattle.tk_query.specs.steps.Rules.{AreLeft, HoldsWithin}
 use Rattle.tk_record.specs.declared.selections.ColumnTest.{ColumnTest}
 use Rattle.tk_query.specs.Matches.{HoldsAt, IsFirstUnlike, IsFirstNowhere, HoldsSomewhere}
 use Rattle.tk_query.proofs.AskedLemmas.{AreFlags, asked_set, fits_clear, fits_set, map_get, next_is, none_first, none_left}

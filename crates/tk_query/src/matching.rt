@@ -1,7 +1,7 @@
 //! Matching events with conditions.
 ghost use Rattle.std.specs.Prelude.{◌<◌, ◌^◌, IfOk, IsOk, OnOk, IfSome, MatchOption};
 ghost use Rattle.tk_query.specs.Asked.{fits, IsFirstFit};
-ghost use Rattle.tk_query.specs.steps.Asked.{AreLeft};
+ghost use Rattle.tk_query.specs.steps.Rules.{AreLeft};
 ghost use Rattle.tk_query.specs.InOrder.{IsNextFit, HasNoFit};
 ghost use Rattle.tk_query.specs.Matches.{IsExact, IsLoose, IsInOrder};
 

@@ -11,10 +11,7 @@ use Rattle.tk_query_conditions.specs.declared.partial_texts.Escape.TheVariants.{
 use Rattle.tk_events.specs.declared.kinds.Kind.{Kind}
 use Rattle.tk_events.specs.declared.kinds.Kind.TheVariants as event
 use Rattle.tk_query_conditions.specs.Cond.{Bare, Test, Container, Engine, Started, Succeeded, Failed, Aborted, TextAtom, Id, Name, Skipped, FailedWith, AbortedWith, Message, File, Pairs, NoPairs, MorePairs, Cond, Plain, With, OfKind, HasSegment, HasPairs, All, Any, Not, Conds, Nothing, More, bare_text, text_atom_text, kind_text, spelled_by, escaped, pairs_text, pairs_lead, cond_text, list_text, lead_text}
-use Rattle.tk_query_conditions.specs.steps.Reading.{OpenGroup, OpenNot, OpenAll, OpenAny, State}
-use Rattle.tk_query_conditions.specs.steps.Reading.{Word, InText, InKind, InTag, InValue}
-use Rattle.tk_query_conditions.specs.steps.Reading.{InPairs, After, text_step}
-use Rattle.tk_query_conditions.specs.steps.Reading.{look, bares, close, ended, step, start}
+use Rattle.tk_query_conditions.specs.steps.Reading.{OpenGroup, OpenNot, OpenAll, OpenAny, State, Word, InText, InKind, InTag, InValue, InPairs, After, text_step, look, bares, close, ended, step, start}
 
 -- the machine has come to the end of the condition c, with this stack below it
 pub record IsAt (s : State) (text : List ℕ) (stack : List OpenGroup) (c : Cond) : Type 0 where

@@ -9,13 +9,7 @@ use Rattle.tk_query_conditions.specs.declared.partial_texts.Escape.TheVariants.{
 use Rattle.tk_events.specs.declared.kinds.Kind.{Kind}
 use Rattle.tk_events.specs.declared.kinds.Kind.TheVariants as event
 use Rattle.tk_query_conditions.specs.Cond.{Pairs, NoPairs, MorePairs, Cond, Plain, With, OfKind, HasSegment, HasPairs, All, Any, Not, Nothing, More, text_atom_text, kind_text}
-use Rattle.tk_query_conditions.specs.steps.Reading.{OpenGroup, OpenNot, OpenAll, OpenAny, State}
-use Rattle.tk_query_conditions.specs.steps.Reading.{Word, InText, InKind, InTag, InValue}
-use Rattle.tk_query_conditions.specs.steps.Reading.{InPairs, After, text_step}
-use Rattle.tk_query_conditions.specs.steps.Reading.{special_of, look, bares, all_kinds, kinds}
-use Rattle.tk_query_conditions.specs.steps.Reading.{openers, Opener, opened, close, close_empty}
-use Rattle.tk_query_conditions.specs.steps.Reading.{after_word, is_prefix, step, next_text}
-use Rattle.tk_query_conditions.specs.steps.Reading.{last_text}
+use Rattle.tk_query_conditions.specs.steps.Reading.{OpenGroup, OpenNot, OpenAll, OpenAny, State, Word, InText, InKind, InTag, InValue, InPairs, After, text_step, special_of, look, bares, all_kinds, kinds, openers, Opener, opened, close, close_empty, after_word, is_prefix, step, next_text, last_text}
 use Rattle.tk_query_conditions.proofs.Prefixes.{if_some, guarded, look_entry, prefix_entry, each_kind, text_goes, part_text}
 use Rattle.tk_ids.proofs.ReadingLemmas.{option_map_some}
 

@@ -11,8 +11,7 @@ use Rattle.tk_query_conditions.specs.Cond.{Cond, Plain, bare_text, cond_text, Is
 use Rattle.tk_query_conditions.specs.CondOf.{cond_of}
 use Rattle.tk_ids.specs.Machine.{run}
 use Rattle.tk_ids.specs.Prefix.{Begins, IsLongestPrefix}
-use Rattle.tk_query_conditions.specs.steps.Reading.{OpenGroup, State, Word, InText, InKind}
-use Rattle.tk_query_conditions.specs.steps.Reading.{InTag, InValue, InPairs, After, look, bares, step, start, ended}
+use Rattle.tk_query_conditions.specs.steps.Reading.{OpenGroup, State, Word, InText, InKind, InTag, InValue, InPairs, After, look, bares, step, start, ended}
 use Rattle.tk_query_conditions.specs.declared.faults.TheConstants.{MAX_DEPTH}
 use Rattle.tk_query_conditions.specs.declared.faults.CondFault.TheVariants.{BadAtom, Deep}
 use Rattle.tk_query_conditions.proofs.CondLemmas.{reads_cond}

@@ -5,7 +5,7 @@ use Rattle.tk_query_conditions.specs.declared.conditions.Condition as real
 use Rattle.tk_query_conditions.specs.declared.conditions.Condition.{Condition, All', Any', Row_of-Condition, end_of-Condition, more_of-Condition, items-the_row-Condition, items_hidden-the_row-Condition-0}
 use Rattle.tk_query_conditions.specs.Cond.{All, Any, Conds, Nothing, More}
 use Rattle.tk_query_conditions.specs.CondOf.{cond_of, row_from}
-use Rattle.tk_query_conditions.specs.steps.CondOf.{conds_from}
+use Rattle.tk_query_conditions.specs.steps.Reader.{conds_from}
 
 abbrev row_of : Condition → (n : Count) × Row_of-Condition n
 row_of (All' _ row) = (_, row)

@@ -12,14 +12,7 @@ use Rattle.tk_events.specs.declared.kinds.Kind.{Kind}
 use Rattle.tk_events.specs.declared.kinds.Kind.TheVariants as event
 use Rattle.tk_query_conditions.specs.Cond.{Test, Container, Engine, Started, Succeeded, Failed, Aborted, TextAtom, Id, Name, Skipped, FailedWith, AbortedWith, Message, File, Pairs, NoPairs, MorePairs, Cond, Plain, With, OfKind, HasSegment, HasPairs, All, Any, Not, Nothing, More, bare_text, text_atom_text, kind_text, spelled_by, escaped, pairs_lead, cond_text, lead_text, IsCondText}
 use Rattle.tk_query_conditions.specs.Reading.{begins_with}
-use Rattle.tk_query_conditions.specs.steps.Reading.{all_kinds, OpenGroup, OpenNot, OpenAll, OpenAny}
-use Rattle.tk_query_conditions.specs.steps.Reading.{State, Word, InText, InKind, InTag, InValue}
-use Rattle.tk_query_conditions.specs.steps.Reading.{InPairs, After}
-use Rattle.tk_query_conditions.specs.steps.Reading.{text_step, special_of, look, bares, kinds}
-use Rattle.tk_query_conditions.specs.steps.Reading.{openers, Opener, OfText, OfKinds, OfSegment}
-use Rattle.tk_query_conditions.specs.steps.Reading.{OfPairs, OfAll, OfAny, OfNot, opened, close, close_empty}
-use Rattle.tk_query_conditions.specs.steps.Reading.{after_word, is_prefix, step, next_text}
-use Rattle.tk_query_conditions.specs.steps.Reading.{last_text}
+use Rattle.tk_query_conditions.specs.steps.Reading.{all_kinds, OpenGroup, OpenNot, OpenAll, OpenAny, State, Word, InText, InKind, InTag, InValue, InPairs, After, text_step, special_of, look, bares, kinds, openers, Opener, OfText, OfKinds, OfSegment, OfPairs, OfAll, OfAny, OfNot, opened, close, close_empty, after_word, is_prefix, step, next_text, last_text}
 use Rattle.tk_ids.proofs.ReadingLemmas.{option_map_some}
 
 abbrev pub spelled_stack : List OpenGroup → List ℕ

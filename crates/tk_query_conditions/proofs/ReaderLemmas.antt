@@ -14,20 +14,9 @@ use Rattle.tk_query_conditions.specs.declared.open_groups.OpenGroup.TheVariants 
 use Rattle.tk_query_conditions.specs.Brackets.{is_group}
 use Rattle.tk_query_conditions.specs.Cond.{Cond, Plain, With, OfKind, HasSegment, HasPairs, All, Any, Not, Conds, Nothing, More, Pairs, NoPairs, MorePairs, TextAtom, Id, Name, Skipped, FailedWith, AbortedWith, Message, File, text_atom_text, kind_text}
 use Rattle.tk_query_conditions.specs.CondOf.{cond_of, pairs_from}
-use Rattle.tk_query_conditions.specs.steps.CondOf.{conds_from}
-use Rattle.tk_query_conditions.specs.steps.Reader.{group_of, groups_from, groups_of, depth_of}
-use Rattle.tk_query_conditions.specs.steps.Reader.{rest_of, state_at, state_of, ContinuesAsText}
-use Rattle.tk_query_conditions.specs.steps.Reader.{CanContinue}
+use Rattle.tk_query_conditions.specs.steps.Reader.{conds_from, group_of, groups_from, groups_of, depth_of, rest_of, state_at, state_of, ContinuesAsText, CanContinue}
 use Rattle.tk_query_conditions.specs.Reading.{begins_with}
-use Rattle.tk_query_conditions.specs.steps.Reading.{OpenGroup, OpenNot, OpenAll, OpenAny, State}
-use Rattle.tk_query_conditions.specs.steps.Reading.{Word, InText, InKind, InTag, InValue}
-use Rattle.tk_query_conditions.specs.steps.Reading.{InPairs, After, look}
-use Rattle.tk_query_conditions.specs.steps.Reading.{is_prefix, all_kinds, kinds, close, close_empty}
-use Rattle.tk_query_conditions.specs.steps.Reading.{closed, closed_empty, joined, Opener, OfText}
-use Rattle.tk_query_conditions.specs.steps.Reading.{OfKinds, OfSegment, OfPairs, OfAll, OfAny, OfNot, opened}
-use Rattle.tk_query_conditions.specs.steps.Reading.{after_word, bares, openers, special_of}
-use Rattle.tk_query_conditions.specs.steps.Reading.{text_step, ends_at, next_text, last_text, step}
-use Rattle.tk_query_conditions.specs.steps.Reading.{start, ended}
+use Rattle.tk_query_conditions.specs.steps.Reading.{OpenGroup, OpenNot, OpenAll, OpenAny, State, Word, InText, InKind, InTag, InValue, InPairs, After, look, is_prefix, all_kinds, kinds, close, close_empty, closed, closed_empty, joined, Opener, OfText, OfKinds, OfSegment, OfPairs, OfAll, OfAny, OfNot, opened, after_word, bares, openers, special_of, text_step, ends_at, next_text, last_text, step, start, ended}
 use Rattle.std.specs.Str.{IsUtf8}
 use Rattle.std.specs.declared.alloc.AllocError.{AllocError}
 use Rattle.tk_ids.proofs.ReadingLemmas.{option_map_some, utf8_after, utf8_before, utf8_swap}

@@ -12,7 +12,7 @@ use Rattle.tk_events.specs.declared.kinds.Kind.{Kind}
 use Rattle.tk_events.specs.declared.kinds.Kind.TheVariants as event
 use Rattle.tk_query_conditions.specs.Cond.{spelled_by, escaped, Pairs, NoPairs, MorePairs, pairs_text, pairs_lead, Cond, All, Any, Conds, Nothing, More, kind_text, cond_text, list_text, lead_text}
 use Rattle.tk_query_conditions.specs.CondOf.{cond_of, pairs_from}
-use Rattle.tk_query_conditions.specs.steps.CondOf.{conds_from}
+use Rattle.tk_query_conditions.specs.steps.Reader.{conds_from}
 use Rattle.tk_query_conditions.specs.steps.Writing.{separator, word_of, operand_text}
 use Rattle.tk_query_conditions.proofs.Members.{cond_of-All, cond_of-Any, conds_more}
 use Rattle.tk_query_conditions.proofs.ReaderLemmas.{pairs_push}

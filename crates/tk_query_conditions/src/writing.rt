@@ -3,7 +3,7 @@ ghost use Rattle.std.specs.Prelude.{◌≡◌, ◌++◌, ◌∷◌, [], IfOk, On
 ghost use Rattle.tk_query_conditions.specs.Characters.{closing_bracket, comma, opening_bracket};
 ghost use Rattle.tk_query_conditions.specs.Cond.{NoPairs, Nothing, cond_text, escaped, list_text, pairs_text};
 ghost use Rattle.tk_query_conditions.specs.CondOf.{cond_of, pairs_from};
-ghost use Rattle.tk_query_conditions.specs.steps.CondOf.{conds_from};
+ghost use Rattle.tk_query_conditions.specs.steps.Reader.{conds_from};
 ghost use Rattle.tk_query_conditions.specs.steps.Writing.{separator, word_of, operand_text};
 
 use crate::conditions::Condition;

@@ -13,11 +13,8 @@ use Rattle.tk_events.specs.declared.statuses.Status.TheVariants.{Successful}
 use Rattle.tk_record.specs.Entries.{of_status, with_entry}
 use Rattle.tk_record.specs.Recorded.{Recorded}
 use Rattle.tk_query_lifecycle.specs.Lifecycle.{HasId, has_run}
-use Rattle.tk_query_lifecycle.specs.steps.KeyStates.{state_of, is_key, is_running, running_child}
-use Rattle.tk_query_lifecycle.specs.steps.KeyStates.{phase_after, advanced, refusal, children_after}
-use Rattle.tk_query_lifecycle.specs.steps.KeyStates.{counted, ArePut, IsCounted}
-use Rattle.tk_query_lifecycle.specs.steps.Progress.{AreAdvanced, AreStates, IsKnownParent, IsParent}
-use Rattle.tk_query_lifecycle.specs.steps.Progress.{IsParentOf, IsPhase, has_success}
+use Rattle.tk_query_lifecycle.specs.steps.KeyStates.{state_of, is_key, is_running, running_child, phase_after, advanced, refusal, children_after, counted, ArePut, IsCounted}
+use Rattle.tk_query_lifecycle.specs.steps.Progress.{AreAdvanced, AreStates, IsKnownParent, IsParent, IsParentOf, IsPhase, has_success}
 use Rattle.tk_query_lifecycle.specs.declared.key_states.KeyState.{KeyState}
 use Rattle.tk_query_lifecycle.specs.declared.key_states.Phase.{Phase}
 use Rattle.tk_query_lifecycle.specs.declared.key_states.Phase.TheVariants.{Idle, Running, Ended}

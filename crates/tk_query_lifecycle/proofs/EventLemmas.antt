@@ -17,13 +17,8 @@ use Rattle.tk_record.specs.Record.{IsRecord}
 use Rattle.tk_record.specs.Recorded.{Recorded}
 use Rattle.tk_record.specs.declared.records.TheConstants.{MAX_ENTRIES}
 use Rattle.tk_query_lifecycle.specs.Lifecycle.{HasId, has_event, has_run, runs, rank, Breaks, BreaksFirst, BreaksNone, KnowsId, KnowsNoParent, HasNoRunningParent, RunsAgain, EndsNothing, LeavesChild}
-use Rattle.tk_query_lifecycle.specs.steps.KeyStates.{idle, state_of, is_key, is_running}
-use Rattle.tk_query_lifecycle.specs.steps.KeyStates.{running_child, refusal, start_refusal}
-use Rattle.tk_query_lifecycle.specs.steps.KeyStates.{finish_refusal, IsFirstRunning}
-use Rattle.tk_query_lifecycle.specs.steps.Progress.{AreStates, IsProgress, IsChecked, IsFirstOfRuns}
-use Rattle.tk_query_lifecycle.specs.steps.Progress.{IsFound, IsKnownId, IsKnownParent, IsParent}
-use Rattle.tk_query_lifecycle.specs.steps.Progress.{IsParentOf, IsPhase, IsSought, is_at_rest}
-use Rattle.tk_query_lifecycle.specs.steps.Progress.{missing_parent, next_event}
+use Rattle.tk_query_lifecycle.specs.steps.KeyStates.{idle, state_of, is_key, is_running, running_child, refusal, start_refusal, finish_refusal, IsFirstRunning}
+use Rattle.tk_query_lifecycle.specs.steps.Progress.{AreStates, IsProgress, IsChecked, IsFirstOfRuns, IsFound, IsKnownId, IsKnownParent, IsParent, IsParentOf, IsPhase, IsSought, is_at_rest, missing_parent, next_event}
 use Rattle.tk_query_lifecycle.specs.declared.lifecycle_rules.LifecycleRule.{LifecycleRule}
 use Rattle.tk_query_lifecycle.specs.declared.lifecycle_rules.LifecycleRule.TheVariants.{IdKnown, ParentUnknown, ParentNotRunning, RanAlready, NotRunning, ChildRunning}
 use Rattle.tk_query_lifecycle.specs.declared.key_states.KeyState.{KeyState}

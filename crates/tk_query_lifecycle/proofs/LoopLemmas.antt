@@ -11,8 +11,7 @@ use Rattle.tk_record.specs.Recorded.{Recorded}
 use Rattle.tk_record.specs.Record.{entry_of_view}
 use Rattle.tk_record.proofs.RemainingEntries.{shown_entry}
 use Rattle.tk_query_lifecycle.specs.Lifecycle.{BreaksNone, NoneBreaks, IsInOrder, IsLifecycle, first_entries}
-use Rattle.tk_query_lifecycle.specs.steps.Progress.{IsFirstOfNeverRun, IsFirstOfRuns, IsProgress}
-use Rattle.tk_query_lifecycle.specs.steps.Progress.{IsTaken, next_event}
+use Rattle.tk_query_lifecycle.specs.steps.Progress.{IsFirstOfNeverRun, IsFirstOfRuns, IsProgress, IsTaken, next_event}
 use Rattle.tk_query_lifecycle.specs.declared.lifecycle_rules.Lifecycle.TheVariants.{Kept, Unfinished, NeverRan}
 use Rattle.tk_query_lifecycle.specs.declared.key_states.KeyState.{KeyState}
 use Rattle.tk_query_lifecycle.proofs.FirstEntries.{first_more}

@@ -14,9 +14,7 @@ use Rattle.tk_query_lifecycle.specs.Lifecycle.{HasId, has_event, has_run, is_eve
 use Rattle.tk_query_lifecycle.specs.LifecycleLaws.{KeptRootsRun}
 use Rattle.tk_query_lifecycle.specs.NeverRan.{HasNoTurn, IsDue, NeverRuns, ParentSucceeds, Succeeds}
 use Rattle.tk_query_lifecycle.specs.steps.KeyStates.{is_idle, state_of}
-use Rattle.tk_query_lifecycle.specs.steps.Progress.{IsFirstOfNeverRun, IsParent, IsPhase}
-use Rattle.tk_query_lifecycle.specs.steps.Progress.{IsProgress, IsSought, IsWhetherNeverRun}
-use Rattle.tk_query_lifecycle.specs.steps.Progress.{has_success, is_due, is_success}
+use Rattle.tk_query_lifecycle.specs.steps.Progress.{IsFirstOfNeverRun, IsParent, IsPhase, IsProgress, IsSought, IsWhetherNeverRun, has_success, is_due, is_success}
 use Rattle.tk_query_lifecycle.specs.declared.key_states.KeyState.{KeyState}
 use Rattle.tk_query_lifecycle.specs.declared.key_states.Phase.{Phase}
 use Rattle.tk_query_lifecycle.specs.declared.key_states.Phase.TheVariants.{Idle, Running, Ended}

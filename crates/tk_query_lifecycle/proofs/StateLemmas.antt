@@ -1,8 +1,7 @@
 -- The least key that runs.
 use Rattle.std.proofs.Common.{◌≡◌, ℕ, ◌+◌, ◌*◌, ◌-◌, ◌<◌, ◌≤◌, Bool, true, false, List, length, get_or, Some, None, ap, ◌∙◌, subst, arith, ⊎_elim, ◌⊎◌, inl, inr}
 use Rattle.std.proofs.lemmas.List.{get_or_default, get_or_past}
-use Rattle.tk_query_lifecycle.specs.steps.KeyStates.{by_key, idle, is_running, state_of}
-use Rattle.tk_query_lifecycle.specs.steps.KeyStates.{IsFirstRunning}
+use Rattle.tk_query_lifecycle.specs.steps.KeyStates.{by_key, idle, is_running, state_of, IsFirstRunning}
 use Rattle.tk_query_lifecycle.specs.declared.key_states.KeyState.{KeyState}
 use Rattle.tk_query_lifecycle.proofs.RowLemmas.{length-by_key, read_at}
 

@@ -5,8 +5,7 @@ use Rattle.tk_events.specs.declared.events.Entry.{Entry}
 use Rattle.tk_record.specs.Entries.{with_entry}
 use Rattle.tk_record.specs.Recorded.{Recorded}
 use Rattle.tk_query_lifecycle.specs.Lifecycle.{HasId, BreaksFirst, KnowsId}
-use Rattle.tk_query_lifecycle.specs.steps.Progress.{AreAdvanced, AreNoted, IsChecked, IsProgress}
-use Rattle.tk_query_lifecycle.specs.steps.Progress.{IsTaken, next_event}
+use Rattle.tk_query_lifecycle.specs.steps.Progress.{AreAdvanced, AreNoted, IsChecked, IsProgress, IsTaken, next_event}
 use Rattle.tk_query_lifecycle.specs.declared.lifecycle_rules.LifecycleRule.{LifecycleRule}
 use Rattle.tk_query_lifecycle.specs.declared.lifecycle_rules.LifecycleRule.TheVariants.{IdKnown}
 use Rattle.tk_query_lifecycle.specs.declared.key_states.KeyState.{KeyState}

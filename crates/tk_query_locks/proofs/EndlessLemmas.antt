@@ -4,7 +4,7 @@ use Rattle.std.proofs.lemmas.Bool.{cases_eq, cases_lt, true≢false}
 use Rattle.std.proofs.lemmas.List.{length-append}
 use Rattle.indexmap.specs.IndexSet.{IndexSet, contains}
 use Rattle.tk_record.specs.Recorded.{Recorded}
-use Rattle.tk_query_locks.specs.steps.Positions.{key_at}
+use Rattle.tk_query_locks.specs.steps.Conflicts.{key_at}
 use Rattle.tk_query_locks.specs.steps.Finishes.{AreEndless, IsEndlessAt, IsNoted, IsSeen, endless_finish}
 
 -- the greatest position

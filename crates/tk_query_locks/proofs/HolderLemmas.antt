@@ -15,10 +15,9 @@ use Rattle.tk_ids.specs.declared.locks.Lock.{Lock}
 use Rattle.tk_query_locks.specs.Conflicts.{ConflictOver, Holds, IsTestWithoutChild, Uses, Writes, global_name, lock}
 use Rattle.tk_query_locks.specs.declared.holders.Holders.{Holders}
 use Rattle.tk_query_locks.specs.declared.holders.Running.{Running}
-use Rattle.tk_query_locks.specs.steps.Conflicts.{IsDescribed, IsLeastLock}
+use Rattle.tk_query_locks.specs.steps.Conflicts.{IsDescribed, IsLeastLock, descriptor_at, key_at}
 use Rattle.tk_query_locks.specs.steps.Parents.{IsUnwritten}
 use Rattle.tk_query_locks.proofs.ConflictLemmas.{at_place}
-use Rattle.tk_query_locks.specs.steps.Positions.{descriptor_at, key_at}
 use Rattle.tk_query_locks.specs.steps.Holders.{AreListed, ConflictAt, HaveLists, IsFirstMeeting, IsFirstMet, IsLeastAt, IsListed, IsListedAs, Keeps, LockIsListed, LockMeetsNone, Meet, MeetsNone, finish_of, under}
 
 -- the descriptor of an entry is one of the record

@@ -21,7 +21,7 @@ use Rattle.tk_query_locks.specs.declared.holders.Holders.{Holders}
 use Rattle.tk_query_locks.specs.Conflicts.{ConflictOver, Uses, Writes}
 use Rattle.tk_query_locks.specs.LockAnswers.{Collide, CollideAt, Conflict, IsFirstCollision, IsLockAnswer, SomeConflict}
 use Rattle.tk_query_locks.specs.steps.Finishes.{AreEndless}
-use Rattle.tk_query_locks.specs.steps.Positions.{descriptor_at, key_at}
+use Rattle.tk_query_locks.specs.steps.Conflicts.{descriptor_at, key_at}
 use Rattle.tk_query_locks.specs.steps.Holders.{ConflictAt, IsFirstMeeting, IsLeastAt, IsMeeting, Meet, MeetsNone, finish_of}
 use Rattle.tk_query_locks.proofs.DescentLemmas.{apart_swap, not_apart_itself}
 use Rattle.tk_query.proofs.AnswerIsUnique.{within_list}

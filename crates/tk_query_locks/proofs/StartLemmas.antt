@@ -6,7 +6,7 @@ use Rattle.std.proofs.lemmas.Bool.{cases_eq, ltb-true, true≢false}
 use Rattle.std.proofs.lemmas.List.{get_or-set_same, get_or-set_other}
 use Rattle.indexmap.specs.IndexSet.{index_set_len}
 use Rattle.tk_query_locks.specs.declared.lock_numbers.LockNumbers.{LockNumbers}
-use Rattle.tk_query_locks.specs.steps.Numbers.{number_of}
+use Rattle.tk_query_locks.specs.steps.Conflicts.{number_of}
 
 -- one element more, in front
 later : (x : ℕ) (xs : List ℕ) (p : ℕ) → Contains xs p → Contains (x ∷ xs) p

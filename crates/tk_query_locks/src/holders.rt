@@ -5,7 +5,7 @@ ghost use Rattle.std.specs.List.{Contains};
 ghost use Rattle.tk_query_locks.specs.Conflicts.{Uses, Writes};
 ghost use Rattle.tk_query.specs.steps.Holders.{AreFinishes};
 ghost use Rattle.tk_query_locks.specs.steps.Finishes.{AreEndless};
-ghost use Rattle.tk_query_locks.specs.steps.Positions.{descriptor_at};
+ghost use Rattle.tk_query_locks.specs.steps.Conflicts.{descriptor_at};
 ghost use Rattle.tk_query_locks.specs.steps.Holders.{AreListed, ConflictAt, HaveLists, IsCollision, IsFirstMet, IsLeastAt, IsMeeting, Keeps, LockIsListed, LockMeetsNone, Meet, MeetsNone, finish_of, under};
 
 use crate::conflicts::{Conflicts, GLOBAL};

@@ -1,6 +1,6 @@
 //! Numbers for the names of locks.
 ghost use Rattle.std.specs.Prelude.{◌≡◌, ◌<◌, ℕ, List};
-ghost use Rattle.tk_query_locks.specs.steps.Numbers.{number_of};
+ghost use Rattle.tk_query_locks.specs.steps.Conflicts.{number_of};
 
 use indexmap::IndexSet;
 use std::alloc::{AllocError, Global};

@@ -8,14 +8,13 @@ use Rattle.tk_query_conditions.specs.declared.conditions.Condition as real
 use Rattle.tk_query_conditions.specs.declared.conditions.Condition.{Condition}
 use Rattle.tk_query_conditions.specs.Cond.{Cond, All, Any, Conds, Nothing, More}
 use Rattle.tk_query_conditions.specs.CondOf.{cond_of}
-use Rattle.tk_query_conditions.specs.steps.CondOf.{conds_from}
+use Rattle.tk_query_conditions.specs.steps.Reader.{conds_from}
 use Rattle.tk_query_conditions.proofs.Members.{cond_of-All, cond_of-Any, conds_more}
 use Rattle.tk_query_conditions.proofs.ReaderLemmas.{conds_some}
 use Rattle.tk_query.specs.Holds.{cond_holds}
 use Rattle.tk_query_nearest.specs.Members.{members, members_of, lacking}
 use Rattle.tk_query_nearest.specs.Parts.{missing, missing_of_all, fewest_missing}
-use Rattle.tk_query_nearest.specs.steps.Counting.{lowered}
-use Rattle.tk_query_nearest.specs.steps.Writing.{appended}
+use Rattle.tk_query_nearest.specs.steps.Candidates.{lowered, appended}
 use Rattle.tk_query_nearest.proofs.WritingLemmas.{appended-append}
 
 pub all_is : (c : Condition) (vec : Vec Condition Global) (list : List Condition) → c ≡ real.All vec → list ≡ vec.items → All (conds_from Nothing list) ≡ cond_of c

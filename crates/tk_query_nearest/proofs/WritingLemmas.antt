@@ -5,7 +5,7 @@ use Rattle.std.specs.List.{flat_map}
 use Rattle.std.proofs.lemmas.List.{append_assoc, append-nil}
 use Rattle.tk_query_conditions.specs.Cond.{Test, Container, Engine, Started, Succeeded, Failed, Aborted, Id, Name, Skipped, FailedWith, AbortedWith, Message, File, Cond, Plain, With, OfKind, HasSegment, HasPairs, All, Any, Not, cond_text}
 use Rattle.tk_query_nearest.specs.Members.{joined}
-use Rattle.tk_query_nearest.specs.steps.Writing.{separated, appended}
+use Rattle.tk_query_nearest.specs.steps.Candidates.{separated, appended}
 
 -- no condition's text is empty
 first_of : (c : Cond) → (b : ℕ) × (rest : List ℕ) × (cond_text c ≡ b ∷ rest)

@@ -1,4 +1,2 @@
 pub mod Candidates
-pub mod Counting
 pub mod RuledOut
-pub mod Writing

@@ -4,9 +4,9 @@ ghost use Rattle.tk_record.specs.Record.{entry_of_view};
 ghost use Rattle.tk_query.specs.Holds.{cond_holds};
 ghost use Rattle.tk_query_conditions.specs.Cond.{All, Nothing};
 ghost use Rattle.tk_query_conditions.specs.CondOf.{cond_of};
-ghost use Rattle.tk_query_conditions.specs.steps.CondOf.{conds_from};
+ghost use Rattle.tk_query_conditions.specs.steps.Reader.{conds_from};
 ghost use Rattle.tk_query_nearest.specs.Members.{lacking, lacking_text};
-ghost use Rattle.tk_query_nearest.specs.steps.Writing.{appended, separated};
+ghost use Rattle.tk_query_nearest.specs.steps.Candidates.{appended, separated};
 
 use std::alloc::{AllocError, Global};
 use tk_ids::Text;

@@ -5,7 +5,7 @@ ghost use Rattle.tk_record.specs.Entries.{of_kind, of_status, desc};
 ghost use Rattle.tk_record.specs.Record.{entry_of_view};
 ghost use Rattle.tk_query_conditions.specs.Cond.{All, Any, Nothing};
 ghost use Rattle.tk_query_conditions.specs.CondOf.{cond_of};
-ghost use Rattle.tk_query_conditions.specs.steps.CondOf.{conds_from};
+ghost use Rattle.tk_query_conditions.specs.steps.Reader.{conds_from};
 ghost use Rattle.tk_query.specs.Holds.{has_within, has_descriptor, message_contains};
 ghost use Rattle.tk_query_nearest.specs.Parts.{distance, has_key, member_parts, missing, missing_parts, other_parts, path_contains, reason_contains};
 ghost use Rattle.tk_query_nearest.specs.steps.RuledOut.{ruled_out_of};

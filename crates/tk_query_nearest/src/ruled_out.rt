@@ -3,7 +3,7 @@ ghost use Rattle.std.specs.Prelude.{◌≡◌, ◌≤◌, min};
 ghost use Rattle.tk_record.specs.Entries.{status_number};
 ghost use Rattle.tk_query_conditions.specs.Cond.{All, Cond, Nothing};
 ghost use Rattle.tk_query_conditions.specs.CondOf.{cond_of};
-ghost use Rattle.tk_query_conditions.specs.steps.CondOf.{conds_from};
+ghost use Rattle.tk_query_conditions.specs.steps.Reader.{conds_from};
 ghost use Rattle.tk_query_nearest.specs.steps.RuledOut.{finished_with_message, lack_of_kind, lack_of_outcome, lack_of_status, ruled_out, ruled_out_of, ruled_out_of_finish};
 
 use crate::parts::{MAX_DISTANCE, lack};

@@ -21,7 +21,7 @@ use Rattle.tk_queue_replay.specs.declared.replays.ReplayFault.TheVariants as fau
 use Rattle.tk_queue_core.specs.Limits.{most_workers}
 use Rattle.tk_queue_replay.specs.Replay.{Moment, Stop, Faulty, Refuses, turn_step, after, plays, start, StopsAt}
 use Rattle.tk_queue_replay.specs.Script.{IsCount, workers_line, AreTurns, turns_line}
-use Rattle.tk_queue_replay.specs.steps.Script.{workers_of, turns_of}
+use Rattle.tk_queue_replay.specs.steps.Replay.{workers_of, turns_of}
 use Rattle.tk_queue_replay.specs.ReplayText.{Scenario, IsReplayVersion, AreListed, header, TextHead, text_head, IsOwn, AreOwn, scripts_by, input_of, NoCount, NoLineOf, IsBad, IsTextOf, IsPlayed}
 use Rattle.tk_queue_replay.specs.Laws.{IsSettled, AnswerIsUnique}
 use Rattle.tk_queue_replay.proofs.ScriptForms.{workers_line_form, turns_line_form, workers_no_feed, turns_no_feed}

@@ -14,7 +14,7 @@ use Rattle.tk_queue_core.specs.Limits.{most_workers}
 use Rattle.tk_queue_replay.specs.declared.turns.Turn.{Turn}
 use Rattle.tk_queue_replay.specs.declared.turns.Turn.TheVariants.{Worker, Take}
 use Rattle.tk_queue_replay.specs.Replay.{IsTurn}
-use Rattle.tk_record_text.specs.steps.Form.{IsForm}
+use Rattle.tk_record_text.specs.steps.Field.{IsForm}
 use Rattle.tk_record_text.specs.Reading.{number_of}
 use Rattle.tk_record_text.specs.steps.Reading.{◌>>=◌, in_line}
 use Rattle.tk_record_text.proofs.Choices.{guarded, stepped}
@@ -25,8 +25,7 @@ use Rattle.tk_record_text.specs.NodeLines.{LacksFeed}
 use Rattle.tk_record_text.proofs.LineForms.{line_form, line_no_feed}
 use Rattle.tk_queue_replay.specs.Script.{workers_fields, IsCount, workers_line, turn_field}
 use Rattle.tk_queue_replay.specs.Script.{turns_fields, AreTurns, turns_line}
-use Rattle.tk_queue_replay.specs.steps.Script.{within, worker_of, workers_of, turn_of, turns_from}
-use Rattle.tk_queue_replay.specs.steps.Script.{turns_of}
+use Rattle.tk_queue_replay.specs.steps.Replay.{within, worker_of, workers_of, turn_of, turns_from, turns_of}
 use Rattle.tk_events.proofs.KindLemmas.{same_bytes}
 
 two : (a a2 b b2 : List ℕ) → a ≡ a2 → b ≡ b2 → a ∷ b ∷ [] ≡ a2 ∷ b2 ∷ []

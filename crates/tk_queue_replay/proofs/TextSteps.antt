@@ -28,15 +28,12 @@ use Rattle.tk_queue_replay.specs.declared.replays.ReplayFault.{ReplayFault}
 use Rattle.tk_queue_replay.specs.declared.replays.ReplayFault.TheVariants as faults
 use Rattle.tk_queue_core.specs.Limits.{most_workers}
 use Rattle.tk_queue_replay.specs.Script.{IsCount, workers_line, AreTurns, turns_line}
-use Rattle.tk_queue_replay.specs.steps.Script.{workers_of, turns_of}
+use Rattle.tk_queue_replay.specs.steps.Replay.{workers_of, turns_of, IsPlayedAs}
 use Rattle.tk_queue_replay.specs.Replay.{replay_input, IsReplayed, plays, start}
 use Rattle.tk_queue_replay.specs.ReplayText.{Scenario, IsReplayVersion, header, TextHead, text_head, IsOwn, AreOwn}
 use Rattle.tk_queue_replay.specs.ReplayText.{scripts_by, input_of, NoCount, IsTextOf, IsPlayed}
 use Rattle.tk_queue_replay.specs.ReplayText.{nodes_fault}
-use Rattle.tk_queue_replay.specs.steps.ReplayText.{IsPlayedAs}
-use Rattle.tk_queue_replay.specs.steps.Reading.{LacksEntryStart, IsEntriesPrefix}
-use Rattle.tk_queue_replay.specs.steps.Reading.{IsListFault, IsFaultAfter, NoTurns, IsFollowed}
-use Rattle.tk_queue_replay.specs.steps.Reading.{IsEndFault}
+use Rattle.tk_queue_replay.specs.steps.Reading.{LacksEntryStart, IsEntriesPrefix, IsListFault, IsFaultAfter, NoTurns, IsFollowed, IsEndFault}
 use Rattle.tk_queue_replay.proofs.ScriptForms.{workers_line_form, turns_line_form, workers_no_feed, turns_no_feed}
 
 -- ---- single lines

@@ -1,4 +1,2 @@
 pub mod Replay
-pub mod Script
-pub mod ReplayText
 pub mod Reading

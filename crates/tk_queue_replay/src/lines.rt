@@ -1,7 +1,7 @@
 //! The lines of a replay text that no record text has, without their line feeds.
 ghost use Rattle.std.specs.Prelude.{◌≡◌, ◌∷◌, IfOk, MatchOption, None, Some};
 ghost use Rattle.tk_record_text.specs.steps.Reading.{in_line};
-ghost use Rattle.tk_queue_replay.specs.steps.Script.{worker_of, workers_of, turn_of, turns_from, turns_of};
+ghost use Rattle.tk_queue_replay.specs.steps.Replay.{worker_of, workers_of, turn_of, turns_from, turns_of};
 
 use crate::turns::Turn;
 use std::alloc::{AllocError, Global};

@@ -14,7 +14,7 @@ use Rattle.tk_queue_session.specs.declared.session_rules.SenderPass.{SenderPass}
 use Rattle.tk_queue_session.specs.declared.session_rules.PassView.{PassView}
 use Rattle.tk_queue_session.specs.Senders.{SenderView}
 use Rattle.tk_queue_session.specs.Tokens.{sent_by, tokens_of}
-use Rattle.tk_queue_session.specs.steps.Tokens.{pass_of_token}
+use Rattle.tk_queue_session.specs.steps.{pass_of_token}
 use Rattle.tk_queue_session.specs.Receivers.{is_marked, is_mark_of}
 use Rattle.tk_events.specs.declared.events.Event.{Event}
 use Rattle.tk_queue_core.specs.declared.items.Item.{Item}

@@ -29,7 +29,7 @@ use Rattle.tk_queue_session.specs.Emission.{MayEmit, Emission, is_dynamic, is_pl
 use Rattle.tk_queue_session.specs.PassViews.{pass_of_sender, pushed, MayPush}
 use Rattle.tk_queue_session.specs.Senders.{SenderView, SenderFields, EmitsLawfully, fresh_senders, knows, refusal_of, id_registered, IsSender, sent_of}
 use Rattle.tk_queue_session.specs.Registering.{HasRoom}
-use Rattle.tk_queue_session.specs.steps.Registering.{IsChildMade}
+use Rattle.tk_queue_session.specs.steps.{IsChildMade}
 use Rattle.tk_queue_session.proofs.KnownKeys.{emission_none, emission_more, some_desc, known_after}
 
 abbrev fields : List Descriptor → ℕ → List (List SegmentView) → ℕ → SenderFields

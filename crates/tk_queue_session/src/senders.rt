@@ -7,7 +7,7 @@ ghost use Rattle.tk_queue_session.specs.Emission.{is_plain, registrations};
 ghost use Rattle.tk_events.specs.Registration.{registered_key};
 ghost use Rattle.tk_queue_session.specs.Senders.{record_of_sender, knows, sends, refusal_of, EmitsLawfully};
 ghost use Rattle.tk_queue_session.specs.Registering.{HasRoom, IsNew, child, IsRegisteredAs};
-ghost use Rattle.tk_queue_session.specs.steps.Registering.{IsChildMade};
+ghost use Rattle.tk_queue_session.specs.steps.{IsChildMade};
 
 use crate::pushes::{push, try_push};
 use crate::sender_faults::{RegisterFault, SendFault};

@@ -24,9 +24,7 @@ use Rattle.tk_report_text.specs.declared.grouping.LinesById.{LinesById}
 use Rattle.tk_report_text.specs.Labels.{Label, events, id_in, label, labels, name}
 use Rattle.tk_report_text.specs.Reports.{label_line, labels_of_id}
 use Rattle.tk_report_text.specs.GroupedLines.{BorrowedText, IdLines}
-use Rattle.tk_report_text.specs.steps.GroupedLines.{texts, dynamic_index, lines_in, tail_line}
-use Rattle.tk_report_text.specs.steps.GroupedLines.{text_of, AddsEvent, IndexesId, IsAt, IsGrouped}
-use Rattle.tk_report_text.specs.steps.GroupedLines.{IsKept}
+use Rattle.tk_report_text.specs.steps.{texts, dynamic_index, lines_in, tail_line, text_of, AddsEvent, IndexesId, IsAt, IsGrouped, IsKept}
 use Rattle.tk_events.proofs.KindLemmas.{same_bytes}
 
 pub on_ok : {T E A B : Type 0} (r : Result T E) → (A → B) → OnOk r A → OnOk r B

@@ -27,8 +27,7 @@ use Rattle.tk_events.specs.Fields.{field_text, line_feed}
 use Rattle.tk_report_text.specs.Labels.{Label}
 use Rattle.tk_report_text.specs.Reports.{id_lines, id_texts, label_line, labels_of_id}
 use Rattle.tk_report_text.specs.GroupedLines.{BorrowedText, IdLines, id_with_lines}
-use Rattle.tk_report_text.specs.steps.GroupedLines.{texts, has_lines, is_empty, AreApart, IsAt}
-use Rattle.tk_report_text.specs.steps.GroupedLines.{IsInOrder, IsKept}
+use Rattle.tk_report_text.specs.steps.{texts, has_lines, is_empty, AreApart, IsAt, IsInOrder, IsKept}
 use Rattle.tk_events.proofs.KindLemmas.{same_bytes}
 
 abbrev order : List ℕ → List ℕ → Ordering

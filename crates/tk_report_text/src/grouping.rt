@@ -3,7 +3,7 @@ ghost use Rattle.std.specs.Prelude.{◌≡◌, ℕ, List, [], true, is_some, IfO
 ghost use Rattle.tk_ids.specs.IdText.{id_text};
 ghost use Rattle.tk_record.specs.Entries.{desc};
 ghost use Rattle.tk_report_text.specs.Labels.{labels};
-ghost use Rattle.tk_report_text.specs.steps.GroupedLines.{lines_in, text_of, IsGrouped, IndexesId, AddsEvent, IsKept, IsInOrder};
+ghost use Rattle.tk_report_text.specs.steps.{lines_in, text_of, IsGrouped, IndexesId, AddsEvent, IsKept, IsInOrder};
 
 use crate::lines::Lines;
 use std::alloc::{AllocError, Global};

@@ -1,7 +1,7 @@
 //! The lines that a report has below an id.
 ghost use Rattle.std.specs.Prelude.{◌≡◌, ◌++◌, [], OnOk};
 ghost use Rattle.tk_record_text.specs.Spelling.{joined, tail};
-ghost use Rattle.tk_report_text.specs.steps.GroupedLines.{is_empty, tail_line};
+ghost use Rattle.tk_report_text.specs.steps.{is_empty, tail_line};
 
 use std::alloc::{AllocError, Global};
 use std::marker::Model;

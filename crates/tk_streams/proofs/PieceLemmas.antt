@@ -5,7 +5,7 @@ use Rattle.std.specs.Io.KnownBytes.{Appends}
 use Rattle.std.proofs.KnownBytes.{Appends-nil, Appends-trans}
 use Rattle.tk_streams.specs.Stream.{AppendsPrefix}
 use Rattle.tk_streams.specs.Pieces.{Outgoing, outgoing, IsSent, Adds}
-use Rattle.tk_streams.specs.steps.Pieces.{IsWrittenTo}
+use Rattle.tk_streams.specs.steps.{IsWrittenTo}
 
 not_both : false ≡ true → ⊥
 not_both e = cc

@@ -24,3 +24,10 @@ IsSent start text o =
 pub record Adds (old new : Outgoing) (bytes : List ℕ) : Type 0 where
   pub follow : (start : Option (List ℕ)) (text : List ℕ) →
       IsSent start text old → IsSent start (text ++ bytes) new
+
+-- a target and its piece took the bytes after all that was to be written before
+abbrev pub AddsTo : {T : Type 0} → (T → Option (List ℕ)) → (T → Bool) →
+    T → T → List ℕ → List ℕ → List ℕ → Type 0
+AddsTo contents broken target target' waiting waiting' bytes =
+    Adds (outgoing (contents target) (broken target) waiting)
+    (outgoing (contents target') (broken target') waiting') bytes

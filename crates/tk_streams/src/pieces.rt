@@ -3,8 +3,8 @@ ghost use Rattle.std.specs.Prelude.{◌≡◌, ◌<◌, length, ◌++◌, ◌∷
 ghost use Rattle.std.specs.Io.KnownBytes.{Appends};
 ghost use Rattle.tk_streams.specs.Stream.{AppendsPrefix};
 ghost use Rattle.tk_streams.specs.declared.pieces.TheConstants.{PIECE};
-ghost use Rattle.tk_streams.specs.Pieces.{Adds, IsSent, outgoing};
-ghost use Rattle.tk_streams.specs.steps.Pieces.{IsWrittenTo};
+ghost use Rattle.tk_streams.specs.Pieces.{AddsTo, IsSent, outgoing};
+ghost use Rattle.tk_streams.specs.steps.{IsWrittenTo};
 
 use crate::streams::{Broken, Target};
 use crate::transfers::write_all;
@@ -80,8 +80,7 @@ impl Piece {
 
     /// Adds bytes, and writes what waits once there is no room for them.
     pub fn put<T: Target>(&mut self, target: &mut T, bytes: &[u8])
-        ensures { Adds (outgoing (T.contents target.old) (T.broken target.old) self.old)
-            (outgoing (T.contents target.new) (T.broken target.new) self.new) bytes.now }
+        ensures { AddsTo T.contents T.broken target.old target.new self.old self.new bytes.now }
     {
         if self.keep(bytes) {
             return;
@@ -104,8 +103,7 @@ impl Piece {
 
     // Writes what waits where there is no room for a byte.
     fn make_room<T: Target>(&mut self, target: &mut T)
-        ensures sent { Adds (outgoing (T.contents target.old) (T.broken target.old) self.old)
-            (outgoing (T.contents target.new) (T.broken target.new) self.new) [] }
+        ensures sent { AddsTo T.contents T.broken target.old target.new self.old self.new [] }
         ensures room { length self.new < PIECE }
     {
         if self.count == PIECE {
@@ -115,8 +113,7 @@ impl Piece {
 
     /// Adds a byte, and writes what waits before it where there is no room for it.
     pub fn put_byte<T: Target>(&mut self, target: &mut T, byte: u8)
-        ensures { Adds (outgoing (T.contents target.old) (T.broken target.old) self.old)
-            (outgoing (T.contents target.new) (T.broken target.new) self.new) (byte ∷ []) }
+        ensures { AddsTo T.contents T.broken target.old target.new self.old self.new (byte ∷ []) }
     {
         self.make_room(target);
         self.push(byte);

@@ -1,13 +1,15 @@
--- What private clauses and proofs alone name of Table.
-use Rattle.std.specs.Prelude.{◌≡◌, ℕ, ◌<◌, List, length, Option, Some, None}
-use Rattle.std.specs.Prelude.{Result, Ok, Err}
+-- What private clauses and proofs alone name.
+use Rattle.std.specs.Prelude.{◌≡◌, ℕ, ◌<◌, List, length, Option, Some, None, Result, Ok, Err, []}
+use Rattle.std.specs.Prelude.{◌∷◌, bytes_eq, if◌then◌else◌}
 use Rattle.tk_ids.specs.declared.tables.TheConstants.{MAX_DESCRIPTORS}
-use Rattle.tk_ids.specs.declared.id_faults.IdFault.TheVariants as id_faults
 use Rattle.tk_ids.specs.declared.descriptors.Descriptor.{Descriptor}
 use Rattle.tk_ids.specs.declared.tables.TableFault.{TableFault}
 use Rattle.tk_ids.specs.declared.tables.TableFault.TheVariants.{NoParent, Twice, Full, Id, Memory}
 use Rattle.tk_ids.specs.IdText.{SegmentView, FitsLimits}
 use Rattle.tk_ids.specs.Table.{HasId, child_id, HasParent}
+use Rattle.tk_ids.specs.declared.locks.Lock.{Lock}
+use Rattle.tk_ids.specs.Locks.{is_before, stronger}
+use Rattle.tk_ids.specs.declared.id_faults.IdFault.TheVariants as id_faults
 
 -- what making the id of a child answers, at a table that may be full; the answer may always be
 -- `Memory`
@@ -39,3 +41,12 @@ abbrev pub IsInsertableAs :
 IsInsertableAs table id (Err NoParent) = ¬ HasParent table id
 IsInsertableAs table id (Err Memory) = Unit {0}
 IsInsertableAs table id answer = HasParent table id × IsFreeAs table id answer
+
+-- the locks, which are in the order of their names, with one more
+abbrev pub added : List Lock → Lock → List Lock
+added [] l = l ∷ []
+added (m ∷ locks) l =
+    if is_before m.name l.name then m ∷ added locks l
+    else if bytes_eq m.name l.name
+    then record { name = m.name; mode = stronger m.mode l.mode } ∷ locks
+    else l ∷ m ∷ locks

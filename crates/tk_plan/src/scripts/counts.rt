@@ -3,7 +3,7 @@ ghost use Rattle.std.specs.Prelude.{◌≡◌, ◌+◌, ◌≤◌, ◌<◌, ◌^
 ghost use Rattle.tk_plan.specs.Trees.{IsForest, forest, tree_of};
 ghost use Rattle.tk_plan.specs.Script.{moves_below};
 ghost use Rattle.tk_plan.specs.Weights.{publications, weight, weights};
-ghost use Rattle.tk_plan.specs.steps.Weights.{own};
+ghost use Rattle.tk_plan.specs.steps.{own};
 
 use crate::trees::nodes::{Node, NumberedNode};
 use tk_base::MAX_EVENTS;

@@ -3,7 +3,7 @@ ghost use Rattle.std.specs.Prelude.{◌≡◌, ◌++◌, ◌+◌, ◌≤◌, ◌
 ghost use Rattle.tk_plan.specs.Trees.{IsForest, forest, tree_of};
 ghost use Rattle.tk_plan.specs.Script as Script;
 ghost use Rattle.tk_plan.specs.Script.{moves_below, stamped};
-ghost use Rattle.tk_plan.specs.steps.Script.{IsShort};
+ghost use Rattle.tk_plan.specs.steps.{IsShort};
 ghost use Rattle.tk_plan.specs.Weights.{publications, weight, weights};
 ghost use Rattle.tk_base.specs.declared.limits.TheConstants.{MAX_EVENTS};
 

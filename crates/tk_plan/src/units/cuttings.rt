@@ -3,7 +3,7 @@ ghost use Rattle.std.specs.Prelude.{◌≡◌, ◌≤◌, ◌+◌, ◌*◌, ◌^
 ghost use Rattle.tk_plan.specs.Trees.{IsForest, forest, tree_of, contents};
 ghost use Rattle.tk_plan.specs.Weights.{publications, weight, weights};
 ghost use Rattle.tk_plan.specs.Cutting.{spine_begins, whole_unit, spine_ends, parts, parts_below, all_static};
-ghost use Rattle.tk_plan.specs.steps.CuttingSteps.{AddsPartsAt, placed};
+ghost use Rattle.tk_plan.specs.steps.{AddsPartsAt, placed};
 ghost use Rattle.tk_plan.specs.CutPlans.{IsCut};
 ghost use Rattle.tk_plan.specs.Keys.{lock_keys};
 ghost use Rattle.tk_ids.specs.declared.tables.TheConstants.{MAX_DESCRIPTORS};

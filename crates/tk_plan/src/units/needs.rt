@@ -5,7 +5,7 @@ ghost use Rattle.tk_locks.specs.Needs.{access_of};
 ghost use Rattle.tk_plan.specs.LockNeeds as LockNeeds;
 ghost use Rattle.tk_plan.specs.LockNeeds.{over, at_resource, access_for, lock_asks, node_asks, IsNeed};
 ghost use Rattle.tk_plan.specs.Trees.{contents};
-ghost use Rattle.tk_plan.specs.steps.MaskAccess.{access_of_masks};
+ghost use Rattle.tk_plan.specs.steps.{access_of_masks};
 
 use crate::trees::nodes::{Node, NumberedNode};
 use tk_ids::{Lock, LockMode, Text};

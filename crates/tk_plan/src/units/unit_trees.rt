@@ -1,6 +1,6 @@
 //! The trees of units, among the nodes of a plan.
 ghost use Rattle.std.specs.Prelude.{◌≡◌, ◌∷◌, ◌++◌, List, suc, length, drop};
-ghost use Rattle.tk_plan.specs.steps.Trees.{HasTreeAt};
+ghost use Rattle.tk_plan.specs.steps.{HasTreeAt};
 
 use crate::trees::nodes::NumberedNode;
 

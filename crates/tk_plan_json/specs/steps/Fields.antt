@@ -1,17 +1,16 @@
--- What readers of a node's members hand on.
-use Rattle.std.specs.Prelude.{◌≡◌, ◌==◌, ◌&&◌, Bool, List, [], ◌∷◌, length, codes}
+-- What private clauses and proofs alone name.
+use Rattle.std.specs.Prelude.{◌≡◌, ◌==◌, ◌&&◌, Bool, List, [], ◌∷◌, length, codes, ℕ, map, Option}
+use Rattle.std.specs.Prelude.{Some, None, Result, Ok, Err}
 use Rattle.serde_json.specs.Data.{Data}
 use Rattle.serde_json.specs.Find.{get}
 use Rattle.serde_json.specs.View.{view}
 use Rattle.tk_plan_json_members.specs.Checks.{Row}
 use Rattle.tk_plan_json_members.specs.Contents.{json_text, json_optional, json_dtype, listed}
 use Rattle.tk_plan_json_members.specs.Rows.{dtype_row, segment_row, name_row, mode_row}
-use Rattle.tk_plan_json_members.specs.Rows.{isolated_row}
-use Rattle.tk_plan_json_members.specs.Rows.{locks_row, skip_row, result_row, entries_row}
-use Rattle.tk_plan_json_members.specs.Rows.{files_rows}
-use Rattle.tk_plan_json_members.specs.Rows.{children_row, dynamic_row}
-use Rattle.tk_plan_json.specs.NodeInputs.{concurrent_of, isolated_of, locks_of}
-use Rattle.tk_plan_json.specs.NodeInputs.{children_of, dynamic_of}
+use Rattle.tk_plan_json_members.specs.Rows.{isolated_row, locks_row, skip_row, result_row}
+use Rattle.tk_plan_json_members.specs.Rows.{entries_row, files_rows, children_row, dynamic_row}
+use Rattle.tk_plan_json.specs.NodeInputs.{concurrent_of, isolated_of, locks_of, children_of}
+use Rattle.tk_plan_json.specs.NodeInputs.{dynamic_of}
 use Rattle.tk_plan_json_members.specs.Pointers.{viewed, IsPairOf}
 use Rattle.tk_plan_json_members.specs.MemberValues.{IsNodeResult, AreReports, AreFiles}
 use Rattle.tk_plan_json.specs.declared.node_fields.Heading.{Heading}
@@ -21,6 +20,12 @@ use Rattle.tk_plan_json.specs.declared.node_fields.Fields.{Fields}
 use Rattle.tk_plan_json.specs.declared.node_members.NodeMembers.{NodeMembers}
 use Rattle.tk_plan_json.specs.declared.read_nodes.Checked.{Checked}
 use Rattle.tk_plan_json.specs.declared.read_nodes.Named.{Named}
+use Rattle.tk_ids.specs.IdText.{SegmentView}
+use Rattle.tk_plan_json.specs.Verdicts.{at_node}
+use Rattle.tk_plan_json.specs.declared.node_faults.NodeFault.{NodeFault}
+use Rattle.tk_plan_json_members.specs.Refusals.{IsFault}
+use Rattle.tk_plan_json_members.specs.declared.faults.PlanFault.{PlanFault}
+use Rattle.tk_plan_json_members.specs.declared.faults.PlanFault.TheVariants.{Memory}
 
 -- the members that each node has to have
 abbrev pub heading_rows : List Row
@@ -102,3 +107,21 @@ checked_of is_static n f = record {
   id = n.id;
   is_leaf = f.is_leaf;
 }
+
+-- the segments that a set keeps as pairs of a tag and a value
+abbrev pub segments_of : List (List ℕ × List ℕ) → List SegmentView
+segments_of keys = map (λ k. record { tag = k.0; value = k.1 }) keys
+
+-- the fault is that of the verdict, unless memory ran out
+abbrev pub Faults : Option PlanFault → PlanFault → Type 0
+Faults v e = IsFault (λ f. v ≡ Some f) e
+
+-- there is no fault, and P holds; or the fault is the verdict's
+abbrev pub Meets : {A : Type 0} → Option PlanFault → (A → Type 0) → Result A PlanFault → Type 0
+Meets v P (Ok x) = (v ≡ None) × P x
+Meets v P (Err e) = Faults v e
+
+-- the fault of the node with this number, but no node has the fault `Memory`
+abbrev pub as_node_fault : PlanFault → ℕ → NodeFault
+as_node_fault Memory number = record { fault = Memory; node = None }
+as_node_fault fault number = at_node number fault

@@ -1,6 +1,6 @@
--- By what conditions are judged.
+-- What private clauses and proofs alone name.
 use Rattle.std.specs.Prelude.{◌≡◌, ◌≢◌, ℕ, Bool, false, ◌&&◌, List, get_or, Option, Some, None}
-use Rattle.std.specs.Prelude.{bytes_eq}
+use Rattle.std.specs.Prelude.{bytes_eq, true, slice_get}
 use Rattle.std.specs.List.{list_all}
 use Rattle.std.specs.Global.{Box, Vec}
 use Rattle.tk_ids.specs.IdText.{id_text}
@@ -9,19 +9,20 @@ use Rattle.tk_events.specs.declared.payloads.Payload.{Payload}
 use Rattle.tk_events.specs.declared.events.Entry.{Entry}
 use Rattle.tk_record.specs.Entries.{desc}
 use Rattle.tk_record.specs.Recorded.{Recorded}
-use Rattle.tk_record.specs.Selections.{passes}
+use Rattle.tk_record.specs.Selections.{passes, Selected}
 use Rattle.tk_record.specs.declared.selections.ColumnTest.{ColumnTest}
 use Rattle.tk_query_conditions.specs.declared.conditions.Condition.{Condition}
-use Rattle.tk_query_conditions.specs.declared.conditions.Condition as condition
 use Rattle.tk_query.specs.declared.rules.PayloadTest.{PayloadTest}
 use Rattle.tk_query.specs.declared.rules.PayloadTest.TheVariants.{Reason, Message, MessageContains}
 use Rattle.tk_query.specs.declared.rules.PayloadTest.TheVariants.{Path, Report}
 use Rattle.tk_query.specs.declared.rules.DescriptorTest.{DescriptorTest}
 use Rattle.tk_query.specs.declared.rules.DescriptorTest.TheVariants.{Engine, Id, Segment, Name}
 use Rattle.tk_query.specs.declared.rules.Rule.{Rule}
-use Rattle.tk_query.specs.declared.rules.Rule.TheVariants as rule
 use Rattle.tk_query.specs.Holds.{has_descriptor, has_message, has_path, has_reason, has_segment}
 use Rattle.tk_query.specs.Holds.{has_within, holds, is_engine, message_contains, reports}
+use Rattle.tk_query.specs.Asked.{event_at, fits}
+use Rattle.tk_query_conditions.specs.declared.conditions.Condition as condition
+use Rattle.tk_query.specs.declared.rules.Rule.TheVariants as rule
 
 -- whether a payload passes the test
 abbrev pub payload_passes : PayloadTest → Payload → Bool
@@ -80,3 +81,11 @@ pub record AllHoldWithin (column_test : ColumnTest) (r : Recorded) (cs : List Co
     Type 0 where
   pub all_within :
       (e : Entry) → passes column_test r e ≡ false → list_all (λ c. holds r c e) cs ≡ false
+
+-- where a flag is set stands an event asked, and the condition holds of none where no flag is set
+pub record AreLeft (asked : Selected) (c : Condition) (flags : List Bool) : Type 0 where
+  pub there :
+      (position : ℕ) → get_or flags position false ≡ true →
+      event_at asked.kept position ≡ slice_get asked.recorded.entries position
+  pub others :
+      (position : ℕ) → get_or flags position false ≡ false → fits asked c position ≡ false

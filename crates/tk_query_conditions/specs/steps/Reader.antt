@@ -1,28 +1,52 @@
--- What the reader of the code has read, as a state of the machine.
+-- What private clauses and proofs alone name.
 use Rattle.std.specs.Prelude.{ℕ, List, [], ◌∷◌, ◌++◌, length, IsUtf8}
+use Rattle.tk_query_conditions.specs.declared.conditions.Condition.{Condition}
+use Rattle.tk_query_conditions.specs.Cond.{Conds, More, TextAtom, Id, Name, Skipped, FailedWith}
+use Rattle.tk_query_conditions.specs.Cond.{AbortedWith, Message, File, NoPairs, Nothing}
+use Rattle.tk_query_conditions.specs.CondOf.{cond_of, pairs_from}
 use Rattle.tk_query_conditions.specs.declared.partial_texts.Escape.{Escape}
 use Rattle.tk_query_conditions.specs.declared.partial_texts.Escape.TheVariants.{Outside, Percent}
 use Rattle.tk_query_conditions.specs.declared.partial_texts.Escape.TheVariants.{Digit}
+use Rattle.tk_query_conditions.specs.declared.readers.PartialPairs.{PartialPairs}
+use Rattle.tk_query_conditions.specs.declared.readers.Position.{Position}
+use Rattle.tk_query_conditions.specs.declared.readers.Reader.{Reader}
+use Rattle.tk_query_conditions.specs.Characters.{percent}
+use Rattle.tk_query_conditions.specs.steps.Reading.{OpenGroup, OpenNot, OpenAll, OpenAny, Opener}
+use Rattle.tk_query_conditions.specs.steps.Reading.{OfText, OfKinds, OfSegment, OfPairs, OfAll}
+use Rattle.tk_query_conditions.specs.steps.Reading.{OfAny, OfNot, State, Word, InText, InKind}
+use Rattle.tk_query_conditions.specs.steps.Reading.{InTag, InValue, InPairs, After}
 use Rattle.tk_query_conditions.specs.declared.words.TextAtom as text_atom
 use Rattle.tk_query_conditions.specs.declared.words.TextAtom.TheVariants as text_atoms
 use Rattle.tk_query_conditions.specs.declared.words.Opener as opener
 use Rattle.tk_query_conditions.specs.declared.words.Opener.TheVariants as openers
 use Rattle.tk_query_conditions.specs.declared.open_groups.OpenGroup as group
 use Rattle.tk_query_conditions.specs.declared.open_groups.OpenGroup.TheVariants as groups
-use Rattle.tk_query_conditions.specs.declared.readers.PartialPairs.{PartialPairs}
-use Rattle.tk_query_conditions.specs.declared.readers.Position.{Position}
 use Rattle.tk_query_conditions.specs.declared.readers.Position.TheVariants as positions
-use Rattle.tk_query_conditions.specs.declared.readers.Reader.{Reader}
-use Rattle.tk_query_conditions.specs.Characters.{percent}
-use Rattle.tk_query_conditions.specs.steps.Characters.{digit_two}
-use Rattle.tk_query_conditions.specs.Cond.{TextAtom, Id, Name, Skipped, FailedWith, AbortedWith}
-use Rattle.tk_query_conditions.specs.Cond.{Message, File, NoPairs, Nothing}
-use Rattle.tk_query_conditions.specs.CondOf.{cond_of, pairs_from}
-use Rattle.tk_query_conditions.specs.steps.CondOf.{conds_from}
-use Rattle.tk_query_conditions.specs.steps.Reading.{OpenGroup, OpenNot, OpenAll, OpenAny, Opener}
-use Rattle.tk_query_conditions.specs.steps.Reading.{OfText, OfKinds, OfSegment, OfPairs, OfAll}
-use Rattle.tk_query_conditions.specs.steps.Reading.{OfAny, OfNot, State, Word, InText, InKind}
-use Rattle.tk_query_conditions.specs.steps.Reading.{InTag, InValue, InPairs, After}
+
+-- `2`, with which the two digits of each escape begin
+abbrev pub digit_two : ℕ
+digit_two = 50
+
+-- `5`, the last digit of `%25`
+abbrev pub digit_five : ℕ
+digit_five = 53
+
+-- `8`, the last digit of `%28`
+abbrev pub digit_eight : ℕ
+digit_eight = 56
+
+-- `9`, the last digit of `%29`
+abbrev pub digit_nine : ℕ
+digit_nine = 57
+
+-- `C`, the last digit of `%2C`
+abbrev pub digit_c : ℕ
+digit_c = 67
+
+-- members, after others
+abbrev pub conds_from : Conds → List Condition → Conds
+conds_from cs [] = cs
+conds_from cs (c ∷ rest) = conds_from (More cs (cond_of c)) rest
 
 abbrev pub text_atom_of : text_atom.TextAtom → TextAtom
 text_atom_of text_atoms.Id = Id

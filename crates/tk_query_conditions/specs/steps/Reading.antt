@@ -5,8 +5,8 @@ use Rattle.std.specs.Prelude.{option_and_then, option_map, ◌==◌, ◌||◌, i
 use Rattle.std.specs.Prelude.{codes, map}
 use Rattle.std.specs.List.{list_any}
 use Rattle.tk_query_conditions.specs.Characters.{percent, opening_bracket, closing_bracket, comma}
-use Rattle.tk_query_conditions.specs.steps.Characters.{digit_two, digit_five, digit_eight}
-use Rattle.tk_query_conditions.specs.steps.Characters.{digit_nine, digit_c}
+use Rattle.tk_query_conditions.specs.steps.Reader.{digit_two, digit_five, digit_eight}
+use Rattle.tk_query_conditions.specs.steps.Reader.{digit_nine, digit_c}
 use Rattle.tk_query_conditions.specs.Cond.{Bare, Test, Container, Engine, Started, Succeeded}
 use Rattle.tk_query_conditions.specs.Cond.{Failed, Aborted, TextAtom, Id, Name, Skipped, FailedWith}
 use Rattle.tk_query_conditions.specs.Cond.{AbortedWith, Message, File, Pairs, NoPairs, MorePairs}

@@ -3,7 +3,7 @@ use Rattle.std.specs.Prelude.{◌≡◌, ◌⊎◌, ℕ, ◌<◌, Bool, true, fa
 use Rattle.std.specs.Prelude.{List, Option, Some, get_or, length, nat_eq}
 use Rattle.indexmap.specs.IndexSet.{IndexSet, contains}
 use Rattle.tk_record.specs.Recorded.{Recorded}
-use Rattle.tk_query_locks.specs.steps.Positions.{key_at}
+use Rattle.tk_query_locks.specs.steps.Conflicts.{key_at}
 
 -- a finish that is never reached for the first execution of a key, and 0 for each other start
 abbrev pub endless_finish : Bool → ℕ

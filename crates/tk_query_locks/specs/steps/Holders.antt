@@ -11,9 +11,8 @@ use Rattle.tk_ids.specs.declared.locks.LockMode.TheVariants.{Read, ReadWrite}
 use Rattle.tk_ids.specs.declared.locks.Lock.{Lock}
 use Rattle.tk_query_locks.specs.declared.holders.Holders.{Holders}
 use Rattle.tk_query_locks.specs.declared.holders.Running.{Running}
-use Rattle.tk_query_locks.specs.steps.Numbers.{number_of}
+use Rattle.tk_query_locks.specs.steps.Conflicts.{number_of, descriptor_at}
 use Rattle.tk_query_locks.specs.steps.Parents.{IsUnwritten}
-use Rattle.tk_query_locks.specs.steps.Positions.{descriptor_at}
 
 -- the finish of the execution that starts here, or 0
 abbrev pub finish_of : Holders → ℕ → ℕ

@@ -1,6 +1,6 @@
 use Rattle.std.proofs.Common.{Bool, subst, sym}
 use Rattle.testkit_questions.specs.Answers.{IsAnswerTo}
-use Rattle.testkit_questions.specs.steps.Replies.{reply_is_yes, reply_text}
+use Rattle.testkit_questions.specs.steps.{reply_is_yes, reply_text}
 use Rattle.testkit_questions.proofs.explanations.write_answer.Goals as goal
 
 pub returns-in-Ok-clause-written : goal.returns-in-Ok-clause-written

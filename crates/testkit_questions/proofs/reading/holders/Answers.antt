@@ -3,7 +3,7 @@ use Rattle.tk_query_conditions.specs.declared.conditions.Condition as real
 use Rattle.tk_query_conditions.specs.declared.conditions.Condition.{Condition}
 use Rattle.tk_query_conditions.specs.Cond.{Any, Nothing}
 use Rattle.tk_query_conditions.specs.CondOf.{cond_of}
-use Rattle.tk_query_conditions.specs.steps.CondOf.{conds_from}
+use Rattle.tk_query_conditions.specs.steps.Reader.{conds_from}
 use Rattle.tk_query_conditions.proofs.Members.{cond_of-Any}
 use Rattle.testkit_questions.proofs.reading.holders.Goals as goal
 

@@ -1,5 +1,5 @@
 use Rattle.std.proofs.Common.{◌-◌, length, arith}
-use Rattle.tk_engine_hierarchical.specs.steps.StaticSteps.{MayStepAs}
+use Rattle.tk_engine_hierarchical.specs.steps.{MayStepAs}
 use Rattle.tk_engine_hierarchical.proofs.Stepped.{others_few, split_others}
 use Rattle.tk_engine_hierarchical.proofs.TreeRuns.{first_ran, may_finish, nothing_ran, ran_node}
 use Rattle.tk_engine_hierarchical.proofs.hierarchical.+running.Goals as goal

@@ -1,6 +1,6 @@
 use Rattle.std.proofs.Common.{◌*◌, ◌+◌, ◌≤◌, All, length}
 use Rattle.tk_plan.specs.Trees.{IsForest, forest}
-use Rattle.tk_engine_hierarchical.specs.steps.StaticSteps.{MayStepAs}
+use Rattle.tk_engine_hierarchical.specs.steps.{MayStepAs}
 use Rattle.tk_engine_hierarchical.specs.TreeRuns.{PlanState, RunsForest}
 use Rattle.tk_engine_hierarchical.proofs.hierarchical.+running.Given as goal
 

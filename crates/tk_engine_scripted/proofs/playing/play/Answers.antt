@@ -1,8 +1,7 @@
 use Rattle.std.proofs.Common.{◌≡◌, ◌<◌, ◌⊎◌, length, take, drop, get_or, suc, sym, ap, ◌∙◌, subst}
 use Rattle.std.specs.Prelude.{IsSome, Some}
 use Rattle.tk_plan.specs.declared.scripts.steps.Act.TheVariants.{Register}
-use Rattle.tk_engine_scripted.specs.steps.Keys.{kept, key_found}
-use Rattle.tk_engine_scripted.specs.steps.Plays.{IsPlayed, begun}
+use Rattle.tk_engine_scripted.specs.steps.{kept, key_found, IsPlayed, begun}
 use Rattle.tk_engine_scripted.proofs.ScriptSteps.{emitted_found, emitted_plays, emitted_same, registered_found, registered_plays, plain_act, cut_at, take_more}
 use Rattle.tk_engine_scripted.proofs.playing.play.Goals as goal
 

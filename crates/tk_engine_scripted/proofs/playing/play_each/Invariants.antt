@@ -1,7 +1,6 @@
 use Rattle.std.proofs.Common.{take}
 use Rattle.tk_engine_execute.specs.Engines.{IsSameSender}
-use Rattle.tk_engine_scripted.specs.steps.Keys.{kept}
-use Rattle.tk_engine_scripted.specs.steps.Plays.{IsPlayed, begun}
+use Rattle.tk_engine_scripted.specs.steps.{kept, IsPlayed, begun}
 use Rattle.tk_engine_scripted.proofs.playing.play_each.Given as goal
 
 abbrev pub ghost-play : goal.ghost-play

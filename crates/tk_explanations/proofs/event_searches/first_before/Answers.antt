@@ -1,7 +1,7 @@
 use Rattle.std.proofs.Common.{ap, sym, ◌∙◌}
 use Rattle.std.specs.Prelude.{Some}
 use Rattle.tk_record.specs.Record.{entry_of_view}
-use Rattle.tk_explanations.specs.steps.EventTests.{passes}
+use Rattle.tk_explanations.specs.steps.{passes}
 use Rattle.tk_explanations.proofs.SearchLemmas.{searched_more, searched_here, searched_before, searched_all}
 use Rattle.tk_explanations.proofs.event_searches.first_before.Goals as goal
 

@@ -1,5 +1,5 @@
 use Rattle.tk_record.specs.Record.{entry_of_view}
-use Rattle.tk_explanations.specs.steps.EventTests.{passes}
+use Rattle.tk_explanations.specs.steps.{passes}
 use Rattle.tk_explanations.proofs.SearchLemmas.{sought_more, sought_before, sought_all}
 use Rattle.tk_explanations.proofs.event_searches.last_before.Goals as goal
 

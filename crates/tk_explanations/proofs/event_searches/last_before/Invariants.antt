@@ -1,4 +1,4 @@
-use Rattle.tk_explanations.specs.steps.EventTests.{passes}
+use Rattle.tk_explanations.specs.steps.{passes}
 use Rattle.tk_explanations.proofs.SearchLemmas.{IsSearchedFor}
 use Rattle.tk_explanations.proofs.event_searches.last_before.Given as goal
 

@@ -1,7 +1,7 @@
 use Rattle.std.proofs.Common.{◌≡◌, ◌∷◌, IfOk, ◌+◌, ◌-◌, drop, sym, ap, ap₂, subst, ◌∙◌, arith}
 use Rattle.std.proofs.lemmas.List.{drop_more}
 use Rattle.tk_plan_code.specs.NodeIds.{ids_after}
-use Rattle.tk_plan_code.specs.steps.NodeSearches.{ids_of_all, search_in}
+use Rattle.tk_plan_code.specs.steps.{ids_of_all, search_in}
 use Rattle.tk_plan_code.specs.NodeViews.{node_view}
 use Rattle.tk_plan_code.proofs.NodeSearches.{next, left_over, found_before, passed}
 use Rattle.tk_plan_code.proofs.node_ids.+searching.Goals as goal

@@ -1,5 +1,5 @@
 use Rattle.std.proofs.Common.{◌≡◌, drop}
-use Rattle.tk_plan_code.specs.steps.NodeSearches.{ids_of_all, search_in}
+use Rattle.tk_plan_code.specs.steps.{ids_of_all, search_in}
 use Rattle.tk_plan_code.proofs.node_ids.+searching.Given as goal
 
 abbrev pub invariant-search_nodes-loop-node : goal.invariant-search_nodes-loop-node

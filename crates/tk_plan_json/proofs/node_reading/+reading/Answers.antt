@@ -8,7 +8,7 @@ use Rattle.tk_plan.specs.declared.trees.nodes.Node.{Node}
 use Rattle.tk_plan.specs.Trees.{contents}
 use Rattle.tk_plan_json_members.specs.Checks.{item_at, first}
 use Rattle.tk_plan_json.specs.Verdicts.{checks, at_node, FaultsAt}
-use Rattle.tk_plan_json.specs.steps.Refusals.{as_node_fault}
+use Rattle.tk_plan_json.specs.steps.Fields.{as_node_fault}
 use Rattle.tk_plan_json.specs.Progress.{IsNoted}
 use Rattle.tk_plan_json.specs.steps.Progress.{HasBelow}
 use Rattle.tk_plan_json.specs.NodeInputs as spec

@@ -9,7 +9,7 @@ use Rattle.tk_plan_json.specs.Verdicts.{located}
 use Rattle.tk_plan_reading.specs.FaultyNodes.{faulty_node}
 use Rattle.tk_plan_reading.specs.PlanOf.{PlanOf, ok_unless, takes_files_in}
 use Rattle.tk_plan_json.specs.NodeInputs.{root_at, node_inputs, grown}
-use Rattle.tk_plan_reading.specs.steps.Tables.{Follow}
+use Rattle.tk_plan_reading.specs.steps.{Follow}
 use Rattle.tk_plan_reading.proofs.TableRows.{plan_follows}
 use Rattle.tk_plan_reading.proofs.PlanFromNodes.{refuses_as, top_fault, no_faulty_node, faulty_node_here, node_faults, node_named, no_node_fault, trees, too_many, not_many, planned}
 use Rattle.tk_plan_reading.proofs.plan_reading.nodes_of.Goals as goal

@@ -1,7 +1,7 @@
 use Rattle.std.proofs.Common.{subst, sym}
 use Rattle.std.proofs.lemmas.Bool.{false≢true}
 use Rattle.serde_json.specs.View.{view}
-use Rattle.tk_plan_reading.specs.steps.ReadNodes.{IsReadFrom}
+use Rattle.tk_plan_reading.specs.steps.{IsReadFrom}
 use Rattle.tk_plan_reading.proofs.Values.{value_here, no_value}
 use Rattle.tk_plan_reading.proofs.plan_reading.read_text.Goals as goal
 

@@ -1,7 +1,7 @@
 use Rattle.std.proofs.Common.{List, ◌++◌, ◌∷◌, [], length, sym, ap, ◌∙◌, subst, arith, append_assoc}
 use Rattle.std.proofs.Common.{length-append}
 use Rattle.tk_ids.specs.declared.descriptors.Descriptor.{Descriptor}
-use Rattle.tk_plan_reading.specs.steps.Tables.{Follow}
+use Rattle.tk_plan_reading.specs.steps.{Follow}
 use Rattle.tk_plan_reading.proofs.plan_reading.table_of.Goals as goal
 
 pub append-requires : goal.append-requires

@@ -1,7 +1,7 @@
 use Rattle.std.proofs.Common.{ap, ◌∙◌}
 use Rattle.tk_query_conditions.specs.Cond.{All, Nothing}
 use Rattle.tk_query_conditions.specs.CondOf.{cond_of, both}
-use Rattle.tk_query_conditions.specs.steps.CondOf.{conds_from}
+use Rattle.tk_query_conditions.specs.steps.Reader.{conds_from}
 use Rattle.tk_query_conditions.proofs.Members.{cond_of-All}
 use Rattle.tk_query_conditions.proofs.conditions.with_id.Goals as goal
 

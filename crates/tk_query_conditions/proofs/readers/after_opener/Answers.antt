@@ -2,10 +2,8 @@ use Rattle.std.proofs.Common.{[], ◌∷◌, Some, None, sym, ap, ◌∙◌}
 use Rattle.tk_query_conditions.specs.declared.partial_texts.Escape.TheVariants.{Outside}
 use Rattle.tk_query_conditions.specs.Cond.{NoPairs, Nothing}
 use Rattle.tk_query_conditions.specs.CondOf.{pairs_from}
-use Rattle.tk_query_conditions.specs.steps.CondOf.{conds_from}
-use Rattle.tk_query_conditions.specs.steps.Reader.{groups_of, opener_of, text_atom_of}
-use Rattle.tk_query_conditions.specs.steps.Reading.{OpenAll, OpenAny, Word, InText, InKind, InTag, InPairs}
-use Rattle.tk_query_conditions.specs.steps.Reading.{opened}
+use Rattle.tk_query_conditions.specs.steps.Reader.{conds_from, groups_of, opener_of, text_atom_of}
+use Rattle.tk_query_conditions.specs.steps.Reading.{OpenAll, OpenAny, Word, InText, InKind, InTag, InPairs, opened}
 use Rattle.tk_query_conditions.proofs.ReaderLemmas.{step_made}
 use Rattle.tk_query_conditions.proofs.readers.after_opener.Goals as goal
 

@@ -1,7 +1,6 @@
 use Rattle.std.proofs.Common.{Some, None, sym, ap, ◌∙◌, if◌then◌else◌, arith}
 use Rattle.std.specs.Option.{option_map}
-use Rattle.tk_query_conditions.specs.steps.Reading.{Word, opened, look, bares, openers, is_prefix}
-use Rattle.tk_query_conditions.specs.steps.Reading.{after_word}
+use Rattle.tk_query_conditions.specs.steps.Reading.{Word, opened, look, bares, openers, is_prefix, after_word}
 use Rattle.std.specs.Prelude.{◌||◌}
 use Rattle.tk_query_conditions.specs.steps.Reader.{groups_of}
 use Rattle.tk_query_conditions.proofs.ReaderLemmas.{step_made, word_ends, word_opens, word_goes}

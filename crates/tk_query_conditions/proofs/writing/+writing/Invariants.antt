@@ -1,6 +1,6 @@
 use Rattle.std.proofs.Common.{◌≡◌, ◌++◌, ◌∷◌, [], string_bytes, take}
 use Rattle.tk_query_conditions.specs.Cond.{Nothing, list_text}
-use Rattle.tk_query_conditions.specs.steps.CondOf.{conds_from}
+use Rattle.tk_query_conditions.specs.steps.Reader.{conds_from}
 use Rattle.tk_query_conditions.proofs.writing.+writing.Given as goal
 
 abbrev pub invariant-push_members-loop-at : goal.invariant-push_members-loop-at

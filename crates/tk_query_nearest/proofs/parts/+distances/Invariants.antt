@@ -1,8 +1,8 @@
 use Rattle.std.proofs.Common.{◌≡◌, take}
 use Rattle.tk_record.specs.Record.{entry_of_view}
 use Rattle.tk_query_conditions.specs.Cond.{Nothing}
-use Rattle.tk_query_conditions.specs.steps.CondOf.{conds_from}
-use Rattle.tk_query_nearest.specs.steps.Counting.{lowered}
+use Rattle.tk_query_conditions.specs.steps.Reader.{conds_from}
+use Rattle.tk_query_nearest.specs.steps.Candidates.{lowered}
 use Rattle.tk_query_nearest.proofs.TakenLemmas.{IsTotal}
 use Rattle.tk_query_nearest.proofs.parts.+distances.Given as goal
 

@@ -1,6 +1,6 @@
 use Rattle.std.proofs.Common.{◌≡◌, min, take}
 use Rattle.tk_query_conditions.specs.Cond.{All, Nothing}
-use Rattle.tk_query_conditions.specs.steps.CondOf.{conds_from}
+use Rattle.tk_query_conditions.specs.steps.Reader.{conds_from}
 use Rattle.tk_query_nearest.specs.steps.RuledOut.{ruled_out}
 use Rattle.tk_query_nearest.specs.declared.parts.TheConstants.{MAX_DISTANCE}
 use Rattle.tk_query_nearest.proofs.ruled_out.+ruled_out.Given as goal

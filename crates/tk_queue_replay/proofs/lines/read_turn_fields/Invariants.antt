@@ -1,5 +1,5 @@
 use Rattle.std.proofs.Common.{◌≡◌, length}
-use Rattle.tk_queue_replay.specs.steps.Script.{turns_from}
+use Rattle.tk_queue_replay.specs.steps.Replay.{turns_from}
 use Rattle.tk_queue_replay.proofs.TurnSteps.{joined_with}
 use Rattle.tk_queue_replay.proofs.lines.read_turn_fields.Given as goal
 

@@ -1,7 +1,7 @@
 use Rattle.std.proofs.Common.{subst, rules}
 use Rattle.std.specs.List.Sorted.{IsPermutation}
 use Rattle.std.proofs.lemmas.Fn.{always_returns_same, filter_same}
-use Rattle.tk_report_text.specs.steps.GroupedLines.{has_lines}
+use Rattle.tk_report_text.specs.steps.{has_lines}
 use Rattle.tk_report_text.proofs.grouping.in_order.Goals as goal
 
 pub returns : goal.returns

@@ -1,7 +1,7 @@
 use Rattle.std.proofs.Common.{ap, subst, sym}
 use Rattle.std.proofs.lemmas.Result.{err_from_is_err_and}
 use Rattle.tk_engine_unit_events.specs.UnitSteps.{ChildView}
-use Rattle.tk_engine_unit_events.specs.steps.Taken.{IsNotedChild}
+use Rattle.tk_engine_unit_events.specs.steps.{IsNotedChild}
 use Rattle.tk_engine_unit_events.proofs.Taken.{not_noted}
 use Rattle.tk_engine_unit_events.proofs.leases.Lease.register_child.Goals as goal
 

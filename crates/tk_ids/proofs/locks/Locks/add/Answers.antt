@@ -1,6 +1,6 @@
 use Rattle.std.proofs.Common.{rules, ◌≡◌, ℕ, List}
 use Rattle.tk_ids.specs.declared.locks.Lock.{Lock}
-use Rattle.tk_ids.specs.steps.Locks.{added}
+use Rattle.tk_ids.specs.steps.Table.{added}
 use Rattle.std.specs.List.Sorted.{IsStrictlySortedBy}
 use Rattle.tk_ids.specs.Locks.{mode_of, mode_with}
 use Rattle.tk_ids.proofs.LockLemmas.{none_are, are_added, mode_added}

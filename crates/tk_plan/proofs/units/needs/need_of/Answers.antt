@@ -1,7 +1,7 @@
 use Rattle.std.proofs.Common.{◌∙◌, sym, ap}
 use Rattle.std.proofs.lemmas.List.{drop_all}
 use Rattle.tk_plan.specs.LockNeeds.{over, nodes_ask}
-use Rattle.tk_plan.specs.steps.MaskAccess.{access_of_masks}
+use Rattle.tk_plan.specs.steps.{access_of_masks}
 use Rattle.tk_plan.specs.Trees.{contents}
 use Rattle.tk_plan.proofs.MaskMarks.{over-nothing, none_marked}
 use Rattle.tk_plan.proofs.units.needs.need_of.Goals as goal

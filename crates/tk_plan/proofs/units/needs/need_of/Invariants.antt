@@ -1,6 +1,6 @@
 use Rattle.std.proofs.Common.{◌≡◌, ◌<◌, ℕ, drop}
 use Rattle.tk_plan.specs.LockNeeds.{over, nodes_ask}
-use Rattle.tk_plan.specs.steps.MaskAccess.{access_of_masks}
+use Rattle.tk_plan.specs.steps.{access_of_masks}
 use Rattle.tk_plan.specs.Trees.{contents}
 use Rattle.tk_plan.proofs.units.needs.need_of.Given as goal
 

@@ -1,7 +1,7 @@
 use Rattle.std.proofs.Common.{◌≡◌, ◌∙◌, not, ap}
 use Rattle.std.specs.List.{list_any}
 use Rattle.tk_ids.specs.IdText.{SegmentView}
-use Rattle.tk_plan_json.specs.steps.SegmentSets.{segments_of}
+use Rattle.tk_plan_json.specs.steps.Fields.{segments_of}
 use Rattle.tk_plan_json.specs.steps.CodeValues.{json_segment_text}
 use Rattle.tk_plan_json.specs.Verdicts.{same_segment}
 use Rattle.tk_plan_json.proofs.SegmentSets.{any_met}

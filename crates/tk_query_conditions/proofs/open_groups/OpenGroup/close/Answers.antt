@@ -1,8 +1,7 @@
 use Rattle.std.proofs.Common.{sym, ap, ◌∙◌}
 use Rattle.tk_query_conditions.specs.Cond.{All, Any, Nothing}
 use Rattle.tk_query_conditions.specs.CondOf.{cond_of}
-use Rattle.tk_query_conditions.specs.steps.CondOf.{conds_from}
-use Rattle.tk_query_conditions.specs.steps.Reader.{group_of}
+use Rattle.tk_query_conditions.specs.steps.Reader.{conds_from, group_of}
 use Rattle.tk_query_conditions.specs.steps.Reading.{closed}
 use Rattle.tk_query_conditions.proofs.Members.{cond_of-All, cond_of-Any, conds_more}
 use Rattle.tk_query_conditions.proofs.open_groups.OpenGroup.close.Goals as goal

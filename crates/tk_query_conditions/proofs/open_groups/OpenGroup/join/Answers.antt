@@ -1,8 +1,7 @@
 use Rattle.std.proofs.Common.{Some, sym, ap, ◌∙◌}
 use Rattle.tk_query_conditions.specs.Cond.{Nothing}
 use Rattle.tk_query_conditions.specs.CondOf.{cond_of}
-use Rattle.tk_query_conditions.specs.steps.CondOf.{conds_from}
-use Rattle.tk_query_conditions.specs.steps.Reader.{group_of}
+use Rattle.tk_query_conditions.specs.steps.Reader.{conds_from, group_of}
 use Rattle.tk_query_conditions.specs.steps.Reading.{OpenAll, OpenAny, joined}
 use Rattle.tk_query_conditions.proofs.Members.{conds_more}
 use Rattle.tk_query_conditions.proofs.open_groups.OpenGroup.join.Goals as goal

@@ -1,7 +1,7 @@
 use Rattle.std.proofs.Common.{◌≡◌, sym, ap, ◌∙◌, arith}
 use Rattle.std.specs.Prelude.{unwrap_or}
 use Rattle.indexmap.specs.IndexSet.{index_set_len}
-use Rattle.tk_query_locks.specs.steps.Numbers.{number_of}
+use Rattle.tk_query_locks.specs.steps.Conflicts.{number_of}
 use Rattle.tk_query_locks.proofs.StartLemmas.{number_within}
 use Rattle.tk_query_locks.proofs.lock_numbers.LockNumbers.number.Goals as goal
 

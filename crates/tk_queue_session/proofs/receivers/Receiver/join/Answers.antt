@@ -1,7 +1,7 @@
 use Rattle.std.proofs.Common.{◌≡◌, ◌∙◌, [], length, map, sym, ap, subst, append-nil}
 use Rattle.std.specs.Vec.Iter.{into_iter_items}
 use Rattle.tk_base.proofs.Lists.{nil_from_length}
-use Rattle.tk_queue_session.specs.steps.Tokens.{pass_of_token}
+use Rattle.tk_queue_session.specs.steps.{pass_of_token}
 use Rattle.tk_queue_session.specs.PassViews.{IsReader, pass_of_receiver}
 use Rattle.tk_queue_session.specs.SessionRule.{Concludes}
 use Rattle.tk_queue_session.proofs.CloseConclusions.{mixes, ends_with_marks, sent_by_tokens}

@@ -3,7 +3,7 @@ use Rattle.std.specs.Arc.{arc_value}
 use Rattle.std.specs.Vec.Iter.{into_iter_items, into_iter_len}
 use Rattle.crossbeam_queue.specs.Passes.{view, IsPassOf}
 use Rattle.tk_queue_session.specs.PassViews.{pass_of_receiver}
-use Rattle.tk_queue_session.specs.steps.Tokens.{pass_of_token}
+use Rattle.tk_queue_session.specs.steps.{pass_of_token}
 use Rattle.tk_queue_session.proofs.receivers.Receiver.join.Given as goal
 
 abbrev pub invariant-loop-token : goal.invariant-loop-token

@@ -2,7 +2,7 @@ use Rattle.std.proofs.Common.{◌≡◌, [], ◌∷◌, ◌++◌, Some, ap, subs
 use Rattle.std.specs.Prelude.{slice_get}
 use Rattle.tk_ids.specs.IdText.{id_text}
 use Rattle.tk_ids.specs.Table.{HasId, ids_of}
-use Rattle.tk_report_text.specs.steps.GroupedLines.{IsAt}
+use Rattle.tk_report_text.specs.steps.{IsAt}
 use Rattle.tk_report_text.proofs.LinesById.{id_added, table_id, unchanged}
 use Rattle.tk_report_text.proofs.grouping.LinesById.index_of_id.Goals as goal
 

@@ -1,6 +1,6 @@
 use Rattle.std.proofs.Common.{sym, ap, ◌∙◌, Some}
 use Rattle.tk_plan.specs.LockNeeds.{over, at_resource, access_for}
-use Rattle.tk_plan.specs.steps.MaskAccess.{access_of_masks}
+use Rattle.tk_plan.specs.steps.{access_of_masks}
 use Rattle.tk_plan.proofs.MaskMarks.{marks_read, marks_write}
 use Rattle.tk_plan.proofs.units.needs.NeedMasks.mark.Goals as goal
 

@@ -1,6 +1,6 @@
 use Rattle.std.proofs.Common.{◌≡◌, ◌<◌, ℕ, drop}
 use Rattle.tk_plan.specs.LockNeeds.{over, lock_asks}
-use Rattle.tk_plan.specs.steps.MaskAccess.{access_of_masks}
+use Rattle.tk_plan.specs.steps.{access_of_masks}
 use Rattle.tk_plan.proofs.units.needs.NeedMasks.mark_locks.Given as goal
 
 abbrev pub invariant-loop-lock : goal.invariant-loop-lock
