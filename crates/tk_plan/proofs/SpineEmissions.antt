@@ -9,9 +9,9 @@ use Rattle.tk_base.specs.declared.limits.TheConstants.{MAX_EVENTS}
 use Rattle.tk_ids.specs.declared.tables.TheConstants.{MAX_DESCRIPTORS}
 use Rattle.tk_ids.specs.declared.descriptors.Descriptor.{Descriptor}
 use Rattle.tk_events.specs.declared.kinds.Kind.{Kind}
-use Rattle.tk_events.specs.declared.kinds.Kind.TheVariants.{Dynamic, Finished, Reporting, File}
+use Rattle.tk_events.specs.declared.kinds.Kind.TheVariants.{Dynamic, Reporting, File}
 use Rattle.tk_events.specs.declared.payloads.Payload.{Payload}
-use Rattle.tk_events.specs.declared.payloads.Payload.TheVariants.{Outcome, Report, Path}
+use Rattle.tk_events.specs.declared.payloads.Payload.TheVariants.{Report, Path}
 use Rattle.tk_events.specs.Event.{is_lawful}
 use Rattle.tk_plan.specs.declared.trees.nodes.Node.{Node}
 use Rattle.tk_plan.specs.declared.trees.nodes.NumberedNode.{NumberedNode}
@@ -80,8 +80,7 @@ module _ (table : List Descriptor) where
 
   begun_static : (k i : ℕ) (n : Node) → Fit n k → All (IsStatic table) (opening_events k i n)
   begun_static k i n fit =
-      let own = and_parts (is_lawful Finished (Outcome n.status n.message)) _ fit.0 in
-      let both = and_parts (list_all (λ e. is_lawful Reporting (Report e)) n.entries) _ own.1 in
+      let both = and_parts (list_all (λ e. is_lawful Reporting (Report e)) n.entries) _ fit.0 in
       All-cons (IsStatic table) _ _ (record { known = fit.1; lawful = refl; registers_none = λ same. cc })
       (All-append (IsStatic table) (published (entry_event k) (i + 1) n.entries) (published (file_event k) (i + 1 + length n.entries) n.files)
       (published_static Reporting Report (λ same. cc) k (i + 1) n.entries fit.1 both.0)
@@ -89,7 +88,7 @@ module _ (table : List Descriptor) where
 
   ended_static : (k i : ℕ) (n : Node) → Fit n k → All (IsStatic table) (finish_event k i n ∷ [])
   ended_static k i n fit =
-      All_one (IsStatic table) _ (record { known = fit.1; lawful = (and_parts (is_lawful Finished (Outcome n.status n.message)) _ fit.0).0; registers_none = λ same. cc })
+      All_one (IsStatic table) _ (record { known = fit.1; lawful = refl; registers_none = λ same. cc })
 
   heads_static : (i : ℕ) (ps : List Part) → All FitPart ps → All (IsStatic table) (from_each begin_events i ps)
   heads_static i [] h = All-nil (IsStatic table)

@@ -1,5 +1,5 @@
 -- A tree that stands at a place.
-use Rattle.std.proofs.Common.{◌≡◌, ℕ, ◌+◌, ◌-◌, List, ◌∷◌, ◌++◌, length, drop, sym, ap, arith, length-append, length-drop}
+use Rattle.std.proofs.Common.{◌≡◌, ℕ, ◌+◌, List, ◌∷◌, ◌++◌, length, drop, sym, ap, arith, length-append, length-drop}
 use Rattle.tk_plan.specs.declared.trees.nodes.NumberedNode.{NumberedNode}
 use Rattle.tk_plan.specs.Planned.{Outline}
 use Rattle.tk_plan.specs.Trees.{tree, forest, IsForest, contents, flat}

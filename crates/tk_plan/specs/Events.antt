@@ -37,7 +37,7 @@ opening_events k i n =
 
 -- a node's finish
 abbrev pub finish_event : ℕ → ℕ → Node → Event
-finish_event k i n = event Finished k i (Outcome n.status n.message)
+finish_event k i n = event Finished k i (Outcome n.outcome)
 
 -- a lawful event of a descriptor of the table, which registers nothing
 pub record IsStatic (table : List Descriptor) (e : Event) : Type 0 where

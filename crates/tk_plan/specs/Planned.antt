@@ -6,8 +6,8 @@ use Rattle.tk_base.specs.declared.limits.TheConstants.{MAX_EVENTS}
 use Rattle.tk_ids.specs.declared.tables.TheConstants.{MAX_DESCRIPTORS}
 use Rattle.tk_plan.specs.declared.units.needs.TheConstants.{MAX_KEYS}
 use Rattle.tk_ids.specs.declared.descriptors.Descriptor.{Descriptor}
-use Rattle.tk_events.specs.declared.kinds.Kind.TheVariants.{Finished, Reporting, File}
-use Rattle.tk_events.specs.declared.payloads.Payload.TheVariants.{Outcome, Report, Path}
+use Rattle.tk_events.specs.declared.kinds.Kind.TheVariants.{Reporting, File}
+use Rattle.tk_events.specs.declared.payloads.Payload.TheVariants.{Report, Path}
 use Rattle.tk_events.specs.Event.{is_lawful}
 use Rattle.tk_locks.specs.NeedView.{NeedView}
 use Rattle.tk_locks.specs.Words.{packed}
@@ -37,9 +37,8 @@ is_rooted (more (tree n k g) (more t f)) = false
 -- the events that the node gives may be sent
 abbrev pub is_lawful_node : Node → Bool
 is_lawful_node n =
-    is_lawful Finished (Outcome n.status n.message)
-    && (list_all (λ e. is_lawful Reporting (Report e)) n.entries
-    && list_all (λ p. is_lawful File (Path p)) n.files)
+    list_all (λ e. is_lawful Reporting (Report e)) n.entries
+    && list_all (λ p. is_lawful File (Path p)) n.files
 
 -- A tree under one static root. No two of its nodes have one id, and its static nodes are those of
 -- the table, in preorder.

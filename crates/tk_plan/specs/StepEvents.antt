@@ -30,7 +30,7 @@ payload_of n Skip = payloads.Reason (unwrap_or n.skip [])
 payload_of n Start = payloads.Nothing
 payload_of n (Report i) = payloads.Report (unwrap_or (slice_get n.entries i) [])
 payload_of n (File i) = payloads.Path (unwrap_or (slice_get n.files i) [])
-payload_of n Finish = payloads.Outcome n.status n.message
+payload_of n Finish = payloads.Outcome n.outcome
 
 -- the event of a step that isn't a registration, of a node that has its number as its key
 abbrev pub event_of_step : Node → Step → Event

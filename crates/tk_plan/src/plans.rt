@@ -15,7 +15,7 @@ use crate::units::unit_trees::{UnitTree, tree_at};
 use std::alloc::{AllocError, Global};
 use std::marker::Model;
 use std::sync::Arc;
-use tk_events::{Event, Payload, Status};
+use tk_events::{Event, Outcome, Payload};
 use tk_ids::{DType, Segment, Table, Text};
 use tk_locks::Need;
 
@@ -321,16 +321,12 @@ impl Plan {
         self.node(node).files.as_slice()[file as usize].as_str()
     }
 
-    /// The status and the message with which the node with this number finishes.
-    pub fn outcome(&self, node: u32) -> (Status, Option<&str>)
+    /// How the node with this number finishes.
+    pub fn outcome(&self, node: u32) -> &Outcome
         requires { node < length self.now.nodes }
-        ensures status { option_map (λ n. n.status) (slice_get (in_order self.now.nodes) node)
-            ≡ Some result.0 }
-        ensures message { option_map (λ n. n.message) (slice_get (in_order self.now.nodes) node)
-            ≡ Some (option_map (λ m. m.now) result.1) }
+        ensures { option_map (λ n. n.outcome) (slice_get (in_order self.now.nodes) node)
+            ≡ Some result.now }
     {
-        let node = self.node(node);
-        let message = node.message.as_ref().map(|message| message.as_str());
-        (node.status, message)
+        &self.node(node).outcome
     }
 }

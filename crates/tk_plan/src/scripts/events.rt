@@ -10,13 +10,7 @@ ghost use Rattle.tk_base.specs.declared.limits.TheConstants.{MAX_EVENTS};
 use crate::scripts::steps::Act;
 use crate::trees::nodes::{Node, NumberedNode};
 use std::alloc::{AllocError, Global};
-use tk_events::{Event, Kind, Payload, try_clone_message};
-
-fn outcome(node: &Node) -> Result<Payload, AllocError>
-    ensures { IfOk result (λ p. p ≡ Payload.Outcome node.now.status node.now.message) }
-{
-    Ok(Payload::Outcome(node.status, try_clone_message(&node.message)?))
-}
+use tk_events::{Event, Kind, Payload};
 
 fn reason(node: &Node) -> Result<Payload, AllocError>
     requires { IsSome node.now.skip }
@@ -43,7 +37,7 @@ pub(crate) fn payload(alloc: Global, node: &Node, act: Act) -> Result<Payload, A
             let path = &node.files.as_slice()[index as usize];
             Ok(Payload::Path(path.try_clone()?))
         }
-        Act::Finish => outcome(node),
+        Act::Finish => Ok(Payload::Outcome(node.outcome.try_clone()?)),
         Act::Register { parent: _ } => Ok(Payload::Nothing),
         Act::Start => Ok(Payload::Nothing),
     }
@@ -100,7 +94,7 @@ pub(crate) fn push_finish_event(
         kind: Kind::Finished,
         key: numbered_node.number,
         stamp,
-        payload: outcome(&numbered_node.node)?,
+        payload: Payload::Outcome(numbered_node.node.outcome.try_clone()?),
     })?;
     Ok(())
 }

@@ -2,7 +2,7 @@
 ghost use Rattle.std.specs.Prelude.{◌≡◌, ◌∷◌};
 
 use std::marker::Model;
-use tk_events::{Pairs, Status};
+use tk_events::{Outcome, Pairs};
 use tk_ids::{DType, Lock, Segment, Text};
 
 /// The locks that a node asks for, in the plan's order.
@@ -116,9 +116,7 @@ pub struct Node {
     /// Why the node is skipped, if it is.
     pub skip: Option<Text>,
     /// How the node finishes, if it isn't skipped.
-    pub status: Status,
-    /// The message with which it finishes.
-    pub message: Option<Text>,
+    pub outcome: Outcome,
     /// The entries that it publishes after its start.
     pub entries: Entries,
     /// The files that it publishes after its entries.
