@@ -1,6 +1,5 @@
-use Rattle.std.proofs.Common.{rules, arith, ◌≡◌, ◌∙◌, sym, ap, subst, Some, slice_get}
+use Rattle.std.proofs.Common.{◌≡◌, ◌∙◌, sym, ap, subst, Some, slice_get}
 use Rattle.indexmap.specs.IndexMap.{set_value_at}
-use Rattle.tk_ids.specs.Locks.{AreLocks}
 use Rattle.tk_ids.specs.Table.{HasParents, HaveLocks}
 use Rattle.tk_ids.proofs.TableLockLemmas.{relocked, relocks, IsRelocked, locks_found}
 use Rattle.tk_ids.proofs.tables.Table.replace_locks.Goals as goal
