@@ -9,7 +9,7 @@ ghost use Rattle.tk_query_lifecycle.specs.steps.KeyStates.{idle, is_idle, is_run
 use crate::lifecycle_rules::LifecycleRule;
 use std::alloc::{AllocError, Global};
 use std::marker::Model;
-use tk_events::{Kind, Payload, Status};
+use tk_events::{Kind, Outcome, Payload};
 use tk_ids::MAX_DESCRIPTORS;
 use tk_record::EntryView;
 
@@ -48,10 +48,10 @@ pub(crate) struct KeyState {
 fn succeeds(event: &EntryView) -> bool
     ensures { result ≡ of_status Successful (entry_of_view event.now) }
 {
-    match (event.kind, event.payload) {
-        (Kind::Finished, Payload::Outcome(status, _)) => matches!(status, Status::Successful),
-        _ => false,
-    }
+    matches!(
+        (event.kind, event.payload),
+        (Kind::Finished, Payload::Outcome(Outcome::Successful))
+    )
 }
 
 impl KeyState {
