@@ -1,13 +1,13 @@
 -- What private clauses and proofs alone name.
-use Rattle.std.specs.Prelude.{◌≡◌, ℕ, true, List, Some, None, is_some, Result, Ok, Err, length}
+use Rattle.std.specs.Prelude.{◌≡◌, ℕ, true, List, length, Some, None, is_some, Result, Ok, Err}
+use Rattle.tk_ids.specs.IdText.{FitsLimits, SegmentView}
 use Rattle.tk_ids.specs.declared.descriptors.Descriptor.{Descriptor}
-use Rattle.tk_ids.specs.IdText.{SegmentView, FitsLimits}
-use Rattle.tk_queue_session.specs.declared.sender_faults.RegisterFault.{RegisterFault}
-use Rattle.tk_queue_session.specs.Senders.{SenderView}
-use Rattle.tk_queue_session.specs.Registering.{HasRoom, parent_of}
-use Rattle.tk_queue_session.specs.declared.session_rules.SenderPass.{SenderPass}
 use Rattle.tk_ids.specs.declared.id_faults.IdFault.TheVariants as id_faults
+use Rattle.tk_queue_session.specs.Registering.{HasRoom, parent_of}
+use Rattle.tk_queue_session.specs.Senders.{SenderView}
+use Rattle.tk_queue_session.specs.declared.sender_faults.RegisterFault.{RegisterFault}
 use Rattle.tk_queue_session.specs.declared.sender_faults.RegisterFault.TheVariants as unregistered
+use Rattle.tk_queue_session.specs.declared.session_rules.SenderPass.{SenderPass}
 
 -- What making the descriptor below a parent answers, with its id once more. `below` is the
 -- descriptor that is asked for, below each parent.
