@@ -1,20 +1,16 @@
 """What the modules of the gate share: the proved program, commands, a folder, and tables.
 
-A module `test_NAME.py` has classes of `unittest.TestCase`. `gate/run` runs it, and counts its cases: each row of a test with
-`@parameterized`, each `subTest`, and each test that has neither.
+A module `test_NAME.py` has classes of `unittest.TestCase`. `gate/run` runs it, and counts its tests: `@parameterized` makes one of each row.
 """
 
-import argparse
 import contextlib
 import functools
 import os
 import shutil
 import signal
 import subprocess
-import sys
 import tempfile
 import unittest
-from collections import Counter
 from dataclasses import dataclass
 from typing import Callable, Iterable, Iterator, List, Sequence, Union
 
@@ -38,9 +34,6 @@ NOT_QUICK = "left to the full gate"
 IS_QUICK = "TESTKIT_QUICK" in os.environ
 SHARED = [int(it) for it in os.environ.get("TESTKIT_PROCESSORS", "").split()]
 """Both ends of the pipe that `./check quick` has for the processors, with a byte for each that is free."""
-
-CHOSEN: List[str] = []
-"""Parts of names, as `gate/run -k` has them: of a table the rows run whose name has one; all rows where there are none."""
 
 
 class WithProgram(unittest.TestCase):
@@ -76,36 +69,25 @@ def needs(command: str) -> Callable:
     return unittest.skipUnless(shutil.which(command), f"no {command}")
 
 
-def parameterized(table: Union[Sequence, Callable[[], Sequence]], name: Callable[[object], str] = lambda row: row.name) -> Callable:
-    """Runs a test once for each row of a table, or of what a function makes; each row is a case.
+@dataclass
+class parameterized:
+    """Makes a test of each row of a table, or of what a function makes: its name is that of the method, a blank and that of the row."""
 
-    A table without a row fails, and one with two rows of one name.
-    """
+    table: Union[Sequence, Callable[[], Sequence]]
+    name: Callable[[object], str] = lambda row: row.name
 
-    def decorate(method: Callable) -> Callable:
-        @functools.wraps(method)
-        def test(self: unittest.TestCase) -> None:
-            names = names_of(self.id())
-            self.assertTrue(names, "the table has no row")
-            self.assertEqual([], [it for it, number in Counter(names).items() if number > 1], "rows have one name")
-            for row, row_name in zip(rows(), names):
-                if is_chosen(row_name):
-                    with self.subTest(name(row)):
-                        method(self, row)
+    def __call__(self, method: Callable) -> "parameterized":
+        self.method = method
+        return self
 
-        def names_of(test_name: str) -> List[str]:
-            return [f"{test_name} {name(row)}" for row in rows()]
-
-        rows = functools.lru_cache(maxsize=None)(lambda: list(table() if callable(table) else table))
-        test.names_of = names_of
-        return test
-
-    return decorate
-
-
-def is_chosen(name: str) -> bool:
-    """Whether a name has one of the parts that were asked for."""
-    return not CHOSEN or any(part in name for part in CHOSEN)
+    def __set_name__(self, owner: type, name: str) -> None:
+        rows = list(self.table() if callable(self.table) else self.table)
+        tests = {f"{name} {self.name(row)}": functools.partialmethod(self.method, row) for row in rows}
+        assert rows, f"the table of {name} has no row"
+        assert len(tests) == len(rows), f"rows of {name} have one name"
+        delattr(owner, name)
+        for name_of_row, test in tests.items():
+            setattr(owner, name_of_row, test)
 
 
 def folder(test: unittest.TestCase) -> str:
@@ -152,20 +134,3 @@ def run(words: Iterable[Union[str, bytes]], input: bytes = b"", seconds: float =
 
 def ask(words: Iterable[Union[str, bytes]], input: bytes = b"", **how) -> Ran:
     return run([PROGRAM, *words], input, **how)
-
-
-class Words(argparse.ArgumentParser):
-    """The words of a command line; wrong ones end with status 70 and one line."""
-
-    def error(self, message: str) -> None:
-        self.exit(70, f"{self.prog}: {message}\n")
-
-
-def end_with(main: Callable[[], int]) -> None:
-    """Ends a script with the status of its main function, or with 70 and one line where that fails."""
-    try:
-        sys.exit(main())
-    except (Exception, KeyboardInterrupt) as fault:
-        print(f"{os.path.relpath(os.path.realpath(sys.argv[0]), TOP)}: it can't be run: {type(fault).__name__}: {fault}", file=sys.stderr, flush=True)
-        # (what can't be written is not tried once more at the end of Python)
-        os._exit(70)

@@ -25,7 +25,6 @@ ONE = "    def test_one(self): pass\n"
 TWO = "    def test_two(self): pass\n"
 PASS = "    pass\n"
 FAILS = "    def test_two(self): self.assertEqual(1, 2)\n"
-SUBTESTS = "    def test_subtests(self):\n        for it in range(3):\n            with self.subTest(it): self.assertLess(it, 2)\n"
 MARKS = "    def test_marks(self): import time; time.sleep(1); open(f'{fixtures.TOP}/mark', 'w').close()\n"
 SEES_MARK = "    def test_sees(self): self.assertTrue(os.path.exists(f'{fixtures.TOP}/mark'))\n"
 """A module that leaves a file after a second, and one that has to find it there."""
@@ -101,17 +100,22 @@ SLOW_ONE = "/// It is slow.\n///\n/// So it is.\n#[test]\nfn slow(rt: HostRuntim
 ROWS = rows(__file__, globals())
 
 
+def copy_of(*paths: str, to: str) -> str:
+    for path in paths:
+        os.makedirs(os.path.dirname(f"{to}/{path}"), exist_ok=True)
+        shutil.copy(f"{TOP}/{path}", f"{to}/{path}")
+    return to
+
+
 class Runner(unittest.TestCase):
     @parameterized([row for row in ROWS if len(row) == 4], name=itemgetter(0))
     def test_says(self, row):
         _, counted, given, modules = row
-        at = folder(self)
-        for name in ("run", "fixtures.py"):
-            shutil.copy(f"{TOP}/gate/{name}", at)
-        write(f"{at}/least", given["least"] + "\n")
+        at = copy_of("gate/run", "gate/fixtures.py", "tools/asking.py", to=folder(self))
+        write(f"{at}/gate/least", given["least"] + "\n")
         for name, text in modules.items():
-            write(f"{at}/{name}.py", text)
-        ran = run([f"{at}/run", *(word.replace("␣", " ") for word in given["words"].split())])
+            write(f"{at}/gate/{name}.py", text)
+        ran = run([f"{at}/gate/run", *(word.replace("␣", " ") for word in given["words"].split())])
         said = (ran.output + ran.error).decode()
         self.assertEqual(status_of(counted), ran.status, said)
         self.assertIn(given["says"], said)
@@ -128,18 +132,14 @@ class Fixtures(unittest.TestCase):
         self.assertEqual(Ran(-9, b"a\n", b""), run(["sh", "-c", "echo a; sleep 60 & wait"], seconds=0.5))
         self.assertLess(time.monotonic() - begun, 50)
 
-    def test_what_a_command_is_given(self):
-        self.assertEqual(Ran(3, b"in", b"err"), run(["sh", "-c", "cat; printf err >&2; exit 3"], b"in"))
-
 
 class Check(unittest.TestCase):
     @parameterized([row for row in ROWS if len(row) == 3], name=itemgetter(0))
     def test_says(self, row):
         _, counted, given = row
         at, words = self.repository(given), given["words"].split()
-        # (a gate in the background of a script ignores interrupts, and what it starts does so too)
-        command = ["env", "--default-signal=INT", f"{at}/{words[0]}", *words[1:]]
-        ran = run(command, cwd="/", stderr=subprocess.STDOUT, env={**os.environ, "PATH": f"{at}/commands:{os.environ['PATH']}"})
+        environment = {**os.environ, "PATH": f"{at}/commands:{os.environ['PATH']}"}
+        ran = run([f"{at}/{words[0]}", *words[1:]], cwd="/", stderr=subprocess.STDOUT, env=environment)
         said = ran.output.decode()
         self.assertEqual(status_of(counted), ran.status, said)
         self.assertIn(given["says"], said)
@@ -148,7 +148,6 @@ class Check(unittest.TestCase):
         else:
             self.assertEqual(counted, said.splitlines()[-1], said)
             self.assertRegex(said, r"\ncheck: \d+ minutes by the clock, \d+ of processor time, on \d+ processors\n")
-            self.assertEqual(words[1:] == [], "  0   " in said and "wrong bodies  runs  crate\n" in said, said)
         self.check_left(at, words[1:] != [], given["leaves"] != "")
 
     def check_left(self, at: str, is_quick: bool, leaves: bool) -> None:
@@ -169,11 +168,8 @@ class Check(unittest.TestCase):
 
     def repository(self, given: Dict[str, str]) -> str:
         """Makes a clean repository in which each command is a script; `rt` finds all but the slow test in each crate."""
-        at = folder(self)
         tools = [f"tools/{it}" for it in ("asking.py", "checked.py", "kept.py", "listener.py", "sources.sh")]
-        for path in ("check", ".ci/run", ".gitignore", "gate/fixtures.py", "gate/slow.py", "gate/times.py", *tools):
-            os.makedirs(os.path.dirname(f"{at}/{path}"), exist_ok=True)
-            shutil.copy(f"{TOP}/{path}", f"{at}/{path}")
+        at = copy_of("check", ".ci/run", ".gitignore", "gate/fixtures.py", "gate/slow.py", *tools, to=folder(self))
         rt = f'ci) {given["ci"]} ;;\nversion) echo "{KIT}"; echo more ;;\n"try --test --seconds 10") {given["tries"]} ;;'
         scripts = {"commands/rt": f'case "$*" in\n{rt}\nesac', "gate/run": given["gate"], "testkit": given["testkit"]}
         scripts["commands/javac"] = "echo javac 99"

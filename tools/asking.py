@@ -20,13 +20,13 @@ class Refused(Exception):
 
 
 class Words(argparse.ArgumentParser):
-    """The words of a script with this name, these words and this docstring; wrong ones are a fault of the script."""
+    """The words of a script with this name and this docstring; wrong ones are a fault of the script."""
 
-    def __init__(self, name: str, words: str, text: str) -> None:
-        super().__init__(prog=name, usage=f"{name} {words}".rstrip(), description=text, formatter_class=argparse.RawDescriptionHelpFormatter)
+    def __init__(self, name: str, text: str) -> None:
+        super().__init__(prog=name, description=text, formatter_class=argparse.RawDescriptionHelpFormatter)
 
     def error(self, message: str) -> None:
-        raise Failed(f"{message}; usage: {self.usage}")
+        raise Failed(f"{message}; {self.format_usage()}")
 
 
 def ask(file: BinaryIO, *words: bytes) -> Tuple[int, bytes]:
