@@ -3,10 +3,10 @@ use Rattle.std.specs.Prelude.{ℕ, Option, Some, None}
 use Rattle.std.specs.Option.{option_and_then}
 use Rattle.tk_events.specs.declared.kinds.Kind.{Kind}
 use Rattle.tk_events.specs.declared.kinds.Kind.TheVariants as kind
-use Rattle.tk_events.specs.declared.statuses.Status.{Status}
-use Rattle.tk_events.specs.declared.statuses.Status.TheVariants as status
+use Rattle.tk_events.specs.declared.outcomes.Outcome.{Outcome}
+use Rattle.tk_events.specs.declared.outcomes.Outcome.TheVariants as outcomes
 use Rattle.tk_events.specs.declared.payloads.Payload.{Payload}
-use Rattle.tk_events.specs.declared.payloads.Payload.TheVariants.{Outcome}
+use Rattle.tk_events.specs.declared.payloads.Payload.TheVariants as payloads
 use Rattle.tk_events.specs.declared.events.Entry.{Entry}
 use Rattle.tk_record.specs.Selections.{Selected}
 use Rattle.tk_query.specs.Asked.{event_at}
@@ -16,17 +16,17 @@ use Rattle.tk_query.specs.declared.execution_steps.Transition.{Transition}
 use Rattle.tk_query.specs.declared.execution_steps.Transition.TheVariants.{Starts, Skips, Ends}
 use Rattle.tk_query.specs.declared.execution_steps.ExecutionStep.{ExecutionStep}
 
--- how an execution ends whose finish has this status
-abbrev pub ending_of : Status → Ending
-ending_of status.Successful = Successful
-ending_of status.Aborted = Aborted
-ending_of status.Failed = Failed
+-- how an execution ends whose finish has this outcome
+abbrev pub ending_of : Outcome → Ending
+ending_of outcomes.Successful = Successful
+ending_of (outcomes.Aborted _) = Aborted
+ending_of (outcomes.Failed _) = Failed
 
 -- what an event does to the execution of its key
 abbrev pub transition_of : Kind → Payload → Option Transition
 transition_of kind.Started payload = Some Starts
 transition_of kind.Skipped payload = Some Skips
-transition_of kind.Finished (Outcome status message) = Some (Ends (ending_of status))
+transition_of kind.Finished (payloads.Outcome outcome) = Some (Ends (ending_of outcome))
 transition_of _ _ = None
 
 -- the step of an event with this transition

@@ -9,6 +9,7 @@ use Rattle.tk_events.specs.declared.statuses.Status.TheVariants as status
 use Rattle.tk_events.specs.declared.payloads.Payload.{Payload}
 use Rattle.tk_events.specs.declared.payloads.Payload.TheVariants.{Reason, Outcome, Report, Path}
 use Rattle.tk_events.specs.declared.events.Entry.{Entry}
+use Rattle.tk_events.specs.Outcomes.{message_of}
 use Rattle.tk_ids.specs.DTypes.{is_test, is_container}
 use Rattle.tk_record.specs.Entries.{of_kind, of_status, desc}
 use Rattle.tk_record.specs.Recorded.{Recorded}
@@ -52,14 +53,19 @@ abbrev pub has_path : List ℕ → Payload → Bool
 has_path text (Path given) = bytes_eq given text
 has_path text _ = false
 
+-- whether the text is there, and passes
+abbrev pub has_text : (List ℕ → Bool) → Option (List ℕ) → Bool
+has_text p None = false
+has_text p (Some text) = p text
+
 -- the payload is an outcome with this message
 abbrev pub has_message : List ℕ → Payload → Bool
-has_message text (Outcome status (Some given)) = bytes_eq given text
+has_message text (Outcome outcome) = has_text (λ given. bytes_eq given text) (message_of outcome)
 has_message text _ = false
 
 -- the payload is an outcome with a message that contains this text
 abbrev pub message_contains : List ℕ → Payload → Bool
-message_contains text (Outcome status (Some given)) = has_within text given
+message_contains text (Outcome outcome) = has_text (has_within text) (message_of outcome)
 message_contains text _ = false
 
 -- the pairs have the same texts

@@ -4,7 +4,7 @@ ghost use Rattle.tk_query.specs.ExecutionSteps.{ending_of, transition_of, step_o
 ghost use Rattle.tk_record.specs.Record.{entry_of_view};
 
 use crate::execution::Ending;
-use tk_events::{Kind, Payload, Status};
+use tk_events::{Kind, Outcome, Payload};
 use tk_record::EntryView;
 
 /// What an event does to the execution of its key.
@@ -23,13 +23,13 @@ pub(crate) struct ExecutionStep {
     pub(crate) transition: Transition,
 }
 
-fn ending_of(status: Status) -> Ending
-    ensures { result ≡ ending_of status }
+fn ending_of(outcome: &Outcome) -> Ending
+    ensures { result ≡ ending_of outcome.now }
 {
-    match status {
-        Status::Successful => Ending::Successful,
-        Status::Aborted => Ending::Aborted,
-        Status::Failed => Ending::Failed,
+    match outcome {
+        Outcome::Successful => Ending::Successful,
+        Outcome::Aborted(_) => Ending::Aborted,
+        Outcome::Failed(_) => Ending::Failed,
     }
 }
 
@@ -39,7 +39,7 @@ fn transition_of(kind: Kind, payload: &Payload) -> Option<Transition>
     match (kind, payload) {
         (Kind::Started, _) => Some(Transition::Starts),
         (Kind::Skipped, _) => Some(Transition::Skips),
-        (Kind::Finished, Payload::Outcome(status, _)) => Some(Transition::Ends(ending_of(*status))),
+        (Kind::Finished, Payload::Outcome(outcome)) => Some(Transition::Ends(ending_of(outcome))),
         _ => None,
     }
 }

@@ -36,7 +36,7 @@ fn finished_so(event: &EntryView, status: Status) -> bool
     ensures { result ≡ of_status status (entry_of_view event.now) }
 {
     match (event.kind, event.payload) {
-        (Kind::Finished, Payload::Outcome(given, _)) => *given == status,
+        (Kind::Finished, Payload::Outcome(outcome)) => outcome.status() == status,
         _ => false,
     }
 }
@@ -128,7 +128,10 @@ fn has_message(payload: &Payload, text: &Text) -> bool
     ensures { result ≡ has_message text.now payload.now }
 {
     match payload {
-        Payload::Outcome(_, Some(given)) => same(given, text),
+        Payload::Outcome(outcome) => match outcome.message() {
+            Some(given) => same(given, text),
+            None => false,
+        },
         _ => false,
     }
 }
@@ -137,7 +140,10 @@ fn message_contains(payload: &Payload, text: &Text) -> bool
     ensures { result ≡ message_contains text.now payload.now }
 {
     match payload {
-        Payload::Outcome(_, Some(given)) => has_within(given.as_str(), text.as_str()),
+        Payload::Outcome(outcome) => match outcome.message() {
+            Some(given) => has_within(given.as_str(), text.as_str()),
+            None => false,
+        },
         _ => false,
     }
 }

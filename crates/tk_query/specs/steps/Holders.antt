@@ -1,14 +1,10 @@
 -- The executions that may conflict, by the positions of their starts.
 use Rattle.std.specs.Prelude.{◌≡◌, ◌≢◌, ℕ, ◌<◌, ◌≤◌, nat_lt, Bool, true, false, ◌&&◌, ◌||◌}
-use Rattle.std.specs.Prelude.{List, get_or, length}
-use Rattle.tk_record.specs.Selections.{Selected}
+use Rattle.std.specs.Prelude.{get_or, length}
 use Rattle.tk_query.specs.declared.answers.Exclusive.{Exclusive}
 use Rattle.tk_query.specs.declared.answers.Exclusive.TheVariants.{Yes, No, NoPair}
 use Rattle.tk_query.specs.declared.exclusion.Holders.{Holders}
 use Rattle.tk_query.specs.declared.exclusion.Ends.{Ends}
-use Rattle.tk_query.specs.declared.execution.Execution.{Execution}
-use Rattle.tk_query.specs.ExecutionSteps.{step_at}
-use Rattle.tk_query.specs.Executions.{IsSpan}
 pub use Rattle.tk_query.specs.Finishes.{AreFinishes, Spans}
 
 -- the finish of the execution that starts here, or 0
