@@ -1,8 +1,7 @@
 -- The same events have one answer.
-use Rattle.std.proofs.Common.{◌≡◌, ℕ, ◌<◌, ◌≤◌, List, refl, sym, ap, ◌∙◌, subst, arith}
-use Rattle.tk_query_locks.specs.declared.answers.LockAnswer.{LockAnswer}
+use Rattle.std.proofs.Common.{◌≡◌, ◌≤◌, refl, sym, ap, ◌∙◌, subst, arith}
 use Rattle.tk_query_locks.specs.declared.answers.LockAnswer.TheVariants.{Yes, No, NoPair}
-use Rattle.tk_query_locks.specs.LockAnswers.{CollideAt, IsLockAnswer}
+use Rattle.tk_query_locks.specs.LockAnswers.{CollideAt}
 use Rattle.tk_query_locks.specs.Laws.{LockAnswerIsUnique}
 use Rattle.tk_query_locks.proofs.ByteOrder.{neither_before}
 

@@ -1,10 +1,9 @@
 -- Ids that are apart by descent.
-use Rattle.std.proofs.Common.{◌≡◌, Bool, true, false, not, List, [], ◌∷◌, ◌++◌, ◌⊎◌, inl, inr, ⊎_elim, refl, sym, ap, ◌∙◌, subst}
+use Rattle.std.proofs.Common.{◌≡◌, Bool, true, false, not, List, [], ◌∷◌, ◌⊎◌, inl, inr, ⊎_elim, refl, sym, ◌∙◌}
 use Rattle.std.specs.Prelude.{◌↔◌, IsTrue}
 use Rattle.std.proofs.lemmas.Bool.{false≢true}
 use Rattle.std.proofs.lemmas.List.{append-nil}
-use Rattle.tk_ids.specs.IdText.{SegmentView, IsBelow, IsId, id_text}
-use Rattle.tk_ids.proofs.ReadingLemmas.{text_is_unique}
+use Rattle.tk_ids.specs.IdText.{SegmentView, IsBelow}
 use Rattle.tk_query_locks.specs.Conflicts.{AreApart, BeginsWith}
 
 -- an id that begins with another is that one, or stands below it

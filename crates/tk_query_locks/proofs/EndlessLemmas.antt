@@ -1,11 +1,11 @@
 -- Finishes that are never reached.
-use Rattle.std.proofs.Common.{◌≡◌, ℕ, zero, suc, ◌+◌, ◌<◌, ◌≤◌, ◌⊎◌, inl, inr, ⊎_elim, Bool, true, false, List, [], ◌∷◌, ◌++◌, Option, Some, get_or, length, nat_eq, refl, sym, ap, ◌∙◌, subst, arith}
+use Rattle.std.proofs.Common.{◌≡◌, ℕ, zero, suc, ◌+◌, ◌<◌, ◌≤◌, ⊎_elim, Bool, true, false, List, [], ◌∷◌, ◌++◌, Option, Some, get_or, length, nat_eq, refl, sym, ap, ◌∙◌, subst, arith}
 use Rattle.std.proofs.lemmas.Bool.{cases_eq, cases_lt, true≢false}
 use Rattle.std.proofs.lemmas.List.{length-append}
 use Rattle.indexmap.specs.IndexSet.{IndexSet, contains}
 use Rattle.tk_record.specs.Recorded.{Recorded}
 use Rattle.tk_query_locks.specs.steps.Conflicts.{key_at}
-use Rattle.tk_query_locks.specs.steps.Finishes.{AreEndless, IsEndlessAt, IsNoted, IsSeen, endless_finish}
+use Rattle.tk_query_locks.specs.steps.Finishes.{AreEndless, IsNoted, endless_finish}
 
 -- the greatest position
 abbrev pub most : ℕ

@@ -186,7 +186,7 @@ no_lock (l ∷ locks) e = let same = eqb-true (length (l ∷ locks)) 0 e in absu
 lawful_locks : (k : Kind) (p : Payload) (d : Descriptor) → described p ≡ Some d → is_lawful k p ≡ true → d.locks ≡ []
 lawful_locks k payload.Nothing d is ok = absurd (none-some d is)
 lawful_locks k (payload.Reason text) d is ok = absurd (none-some d is)
-lawful_locks k (payload.Outcome status message) d is ok = absurd (none-some d is)
+lawful_locks k (payload.Outcome outcome) d is ok = absurd (none-some d is)
 lawful_locks k (payload.Report pairs) d is ok = absurd (none-some d is)
 lawful_locks k (payload.Path path) d is ok = absurd (none-some d is)
 lawful_locks kind.Dynamic (payload.Described x) d is ok =

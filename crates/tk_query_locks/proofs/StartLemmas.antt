@@ -1,5 +1,5 @@
 -- Lists of starts, and numbers of locks.
-use Rattle.std.proofs.Common.{◌≡◌, ℕ, zero, suc, ◌<◌, ◌≤◌, ⊎_elim, Bool, true, false, cond, List, [], ◌∷◌, get_or, length, set, Option, Some, None, refl, sym, ap, ◌∙◌, subst, arith}
+use Rattle.std.proofs.Common.{◌≡◌, ℕ, zero, suc, ◌<◌, ◌≤◌, ⊎_elim, Bool, true, false, cond, List, [], ◌∷◌, get_or, length, set, Some, None, refl, sym, ap, ◌∙◌, subst, arith}
 use Rattle.std.specs.Prelude.{bytes_eq, string_bytes, unwrap_or, nat_lt}
 use Rattle.std.specs.List.{Contains, filter, position, position_or_len}
 use Rattle.std.proofs.lemmas.Bool.{cases_eq, ltb-true, true≢false}

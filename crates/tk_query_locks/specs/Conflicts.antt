@@ -1,5 +1,5 @@
 -- Which descriptors of a record conflict over which locks.
-use Rattle.std.specs.Prelude.{◌≡◌, ◌≢◌, ◌⊎◌, ℕ, true, List, [], ◌∷◌, ◌++◌, Some, codes}
+use Rattle.std.specs.Prelude.{◌≡◌, ◌⊎◌, ℕ, true, List, [], ◌∷◌, ◌++◌, Some, codes}
 use Rattle.std.specs.List.{Contains}
 use Rattle.tk_ids.specs.declared.descriptors.Descriptor.{Descriptor}
 use Rattle.tk_ids.specs.DTypes.{is_test}
@@ -7,7 +7,7 @@ use Rattle.tk_ids.specs.IdText.{SegmentView}
 use Rattle.tk_record.specs.Entries.{desc}
 use Rattle.tk_record.specs.Recorded.{Recorded}
 use Rattle.tk_ids.specs.declared.locks.LockMode.{LockMode}
-use Rattle.tk_ids.specs.declared.locks.LockMode.TheVariants.{Read, ReadWrite}
+use Rattle.tk_ids.specs.declared.locks.LockMode.TheVariants.{ReadWrite}
 use Rattle.tk_ids.specs.declared.locks.Lock.{Lock}
 
 -- an id begins with the list of segments of another

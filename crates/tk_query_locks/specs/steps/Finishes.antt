@@ -1,6 +1,6 @@
 -- Finishes that are never reached.
 use Rattle.std.specs.Prelude.{◌≡◌, ◌⊎◌, ℕ, ◌<◌, Bool, true, false, if◌then◌else◌}
-use Rattle.std.specs.Prelude.{List, Option, Some, get_or, length, nat_eq}
+use Rattle.std.specs.Prelude.{List, Some, get_or, length, nat_eq}
 use Rattle.indexmap.specs.IndexSet.{IndexSet, contains}
 use Rattle.tk_record.specs.Recorded.{Recorded}
 use Rattle.tk_query_locks.specs.steps.Conflicts.{key_at}

@@ -1,14 +1,14 @@
 -- The ids of which some descriptor is a child, and the locks that a table has.
-use Rattle.std.specs.Prelude.{◌≡◌, ◌⊎◌, ℕ, ◌<◌, true, Bool, Option, Some, None}
-use Rattle.std.specs.Prelude.{List, [], ◌∷◌, length}
-use Rattle.std.specs.Prelude.{nat_eq, slice_get}
+use Rattle.std.specs.Prelude.{◌≡◌, ℕ, ◌<◌, true, Bool, Option, Some, None}
+use Rattle.std.specs.Prelude.{List, length}
+use Rattle.std.specs.Prelude.{nat_eq}
 use Rattle.std.specs.Cmp.Lexicographic.{pointwise}
-use Rattle.indexmap.specs.IndexSet.{IndexSet, contains_by}
-use Rattle.tk_ids.specs.IdText.{SegmentView, IsId, id_text, parent_of}
+use Rattle.indexmap.specs.IndexSet.{contains_by}
+use Rattle.tk_ids.specs.IdText.{IsId, id_text, parent_of}
 use Rattle.tk_ids.specs.declared.descriptors.Descriptor.{Descriptor}
 use Rattle.tk_record.specs.Entries.{desc}
 use Rattle.tk_record.specs.Recorded.{Recorded}
-use Rattle.tk_query_locks.specs.Conflicts.{IsTestWithoutChild, Writes, global_name}
+use Rattle.tk_query_locks.specs.Conflicts.{Writes, global_name}
 use Rattle.tk_query_locks.specs.declared.parents.Parents.{Parents}
 
 -- whether the text is among those of the parents

@@ -1,4 +1,4 @@
-use Rattle.std.proofs.Common.{◌≡◌, ◌∙◌, sym, subst}
+use Rattle.std.proofs.Common.{◌∙◌, sym, subst}
 use Rattle.tk_record.specs.Recorded.{Recorded}
 use Rattle.tk_query.proofs.AskedLemmas.{AreFlags}
 use Rattle.tk_query_locks.specs.steps.Finishes.{AreEndless}

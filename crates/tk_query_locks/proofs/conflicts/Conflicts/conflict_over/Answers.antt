@@ -1,4 +1,4 @@
-use Rattle.std.proofs.Common.{◌≡◌, refl, sym, ◌∙◌}
+use Rattle.std.proofs.Common.{refl}
 use Rattle.tk_query_locks.proofs.ConflictLemmas.{conflict_from, conflict_back, first_or_second}
 use Rattle.tk_query_locks.proofs.conflicts.Conflicts.conflict_over.Goals as goal
 

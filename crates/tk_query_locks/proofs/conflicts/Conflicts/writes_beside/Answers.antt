@@ -1,4 +1,4 @@
-use Rattle.std.proofs.Common.{◌≡◌, sym, ◌∙◌}
+use Rattle.std.proofs.Common.{sym, ◌∙◌}
 use Rattle.std.proofs.lemmas.Bool.{false≢true}
 use Rattle.tk_query_locks.proofs.ConflictLemmas.{used_told}
 use Rattle.tk_query_locks.proofs.conflicts.Conflicts.writes_beside.Goals as goal

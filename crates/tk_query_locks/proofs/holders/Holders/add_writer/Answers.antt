@@ -1,4 +1,4 @@
-use Rattle.std.proofs.Common.{◌≡◌, ℕ, ◌<◌, [], get_or, sym, subst, arith}
+use Rattle.std.proofs.Common.{ℕ, ◌<◌, [], get_or, sym, subst, arith}
 use Rattle.std.specs.List.{Contains}
 use Rattle.tk_query_locks.specs.steps.Holders.{finish_of}
 use Rattle.tk_query_locks.proofs.holders.Holders.add_writer.Goals as goal

@@ -1,4 +1,4 @@
-use Rattle.std.proofs.Common.{◌≡◌, [], get_or, sym, ap, ◌∙◌, subst}
+use Rattle.std.proofs.Common.{[], get_or, sym, ap, ◌∙◌, subst}
 use Rattle.std.specs.List.{Contains}
 use Rattle.tk_query_locks.specs.steps.Conflicts.{number_of}
 use Rattle.tk_query_locks.proofs.HolderLemmas.{read_not_write}

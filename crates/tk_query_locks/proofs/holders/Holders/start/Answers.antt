@@ -1,4 +1,4 @@
-use Rattle.std.proofs.Common.{◌≡◌, ◌≤◌, List, inl, inr, length, sym, subst}
+use Rattle.std.proofs.Common.{◌≤◌, List, inl, inr, length, sym, subst}
 use Rattle.tk_ids.specs.declared.locks.Lock.{Lock}
 use Rattle.tk_query_locks.proofs.HolderLemmas.{AreTaken, all_taken, keeps_all, listed_none, none_taken, on_ok_both, one_taken}
 use Rattle.tk_query_locks.proofs.holders.Holders.start.Goals as goal

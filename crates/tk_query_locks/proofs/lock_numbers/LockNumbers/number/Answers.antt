@@ -1,4 +1,4 @@
-use Rattle.std.proofs.Common.{◌≡◌, sym, ap, ◌∙◌, arith}
+use Rattle.std.proofs.Common.{ap, ◌∙◌, arith}
 use Rattle.std.specs.Prelude.{unwrap_or}
 use Rattle.indexmap.specs.IndexSet.{index_set_len}
 use Rattle.tk_query_locks.specs.steps.Conflicts.{number_of}

@@ -1,6 +1,6 @@
-use Rattle.std.proofs.Common.{◌≡◌, ◌<◌, ◌∙◌, [], get_or, ap, sym, subst, length}
+use Rattle.std.proofs.Common.{◌<◌, ◌∙◌, [], get_or, sym, subst, length}
 use Rattle.std.specs.List.{Contains}
-use Rattle.std.proofs.lemmas.List.{get_or_default, get_or-set_same}
+use Rattle.std.proofs.lemmas.List.{get_or_default}
 use Rattle.tk_query_locks.proofs.StartLemmas.{list_changed}
 use Rattle.tk_query_locks.proofs.start_lists.StartLists.push.Goals as goal
 
