@@ -1,5 +1,5 @@
 -- The escapes of an id's text, one character after another.
-use Rattle.std.proofs.Common.{◌≡◌, ◌≢◌, ℕ, ◌+◌, ◌/◌, ◌%◌, ◌≤◌, nat_eq, List, [], ◌∷◌, ◌++◌, Bool, true, false, cond, Result, Ok, Err, is_ok, OnOk, flat_map, refl, sym, ap, ◌∙◌, arith, append_assoc}
+use Rattle.std.proofs.Common.{◌≡◌, ◌≢◌, ℕ, ◌+◌, ◌/◌, ◌%◌, ◌≤◌, nat_eq, List, [], ◌∷◌, ◌++◌, Bool, true, false, cond, Result, Ok, Err, is_ok, OnOk, refl, sym, ap, ◌∙◌, arith, append_assoc}
 use Rattle.std.proofs.lemmas.Grind.{flat_map-append}
 use Rattle.std.proofs.lemmas.Bool.Decides.{nat_tests}
 use lib.Utf8.{encode, next}

@@ -8,6 +8,8 @@ use Rattle.tk_ids.specs.declared.descriptors.DType.{DType}
 use Rattle.tk_ids.specs.declared.descriptors.DType.TheVariants.{Container, Test, Both}
 use Rattle.tk_ids.specs.declared.locks.LockMode.{LockMode}
 use Rattle.tk_ids.specs.declared.locks.LockMode.TheVariants.{Read, ReadWrite}
+use Rattle.tk_events.specs.Outcomes.{message_of, status_of}
+use Rattle.tk_events.specs.declared.outcomes.Outcome.{Outcome}
 use Rattle.tk_events.specs.declared.statuses.Status.{Status}
 use Rattle.tk_events.specs.declared.statuses.Status.TheVariants.{Successful, Aborted, Failed}
 use Rattle.tk_plan_code.specs.declared.modes.ExecutionMode.{ExecutionMode}
@@ -82,13 +84,10 @@ lock_json l =
     json_object ((codes "key", string l.key.now) ∷ (codes "mode", string (lock_mode_word l.mode))
     ∷ [])
 
-abbrev pub result_json : Status → Option (List ℕ) → Data
-result_json status message =
-    json_object ((codes "status", string (status_word status))
-    ∷ text_members (codes "message") message)
-
-abbrev pub result_members : Status → Option (List ℕ) → List NamedJson
-result_members status message = (codes "result", result_json status message) ∷ []
+abbrev pub result_json : Outcome → Data
+result_json outcome =
+    json_object ((codes "status", string (status_word (status_of outcome)))
+    ∷ text_members (codes "message") (message_of outcome))
 
 abbrev pub entry_json : List (List ℕ × List ℕ) → Data
 entry_json pairs = json_array (map json_pair pairs)
@@ -112,8 +111,8 @@ concurrency_members n =
 -- the members that say what it emits
 abbrev pub content_members : {A : Type 0} → NodeView A → List NamedJson
 content_members n =
-    text_members (codes "skip") n.skip ++ result_members n.status n.message
-    ++ array_members (codes "entries") (map entry_json n.entries)
+    text_members (codes "skip") n.skip ++ (codes "result", result_json n.outcome)
+    ∷ array_members (codes "entries") (map entry_json n.entries)
     ++ array_members (codes "files") (map string n.files)
 
 -- the object of a node, given the objects of those below it

@@ -2,8 +2,8 @@
 use Rattle.std.specs.Prelude.{ℕ, Bool, false, List, [], Option, None, option_map, map}
 use Rattle.std.specs.Borrow.{Bor}
 use Rattle.tk_ids.specs.declared.descriptors.DType.{DType}
-use Rattle.tk_events.specs.declared.statuses.Status.{Status}
-use Rattle.tk_events.specs.declared.statuses.Status.TheVariants.{Successful}
+use Rattle.tk_events.specs.declared.outcomes.Outcome.{Outcome}
+use Rattle.tk_events.specs.declared.outcomes.Outcome.TheVariants.{Successful}
 use Rattle.tk_plan_code.specs.declared.modes.ExecutionMode.{ExecutionMode}
 use Rattle.tk_plan_code.specs.declared.modes.ExecutionMode.TheVariants.{SameThread}
 use Rattle.tk_plan_code.specs.declared.plan_nodes.PlanLock.{PlanLock}
@@ -21,8 +21,7 @@ pub record NodeView (A : Type 0) : Type 0 where
   pub is_isolated : Bool
   pub locks : List PlanLock
   pub skip : Option (List ℕ)
-  pub status : Status
-  pub message : Option (List ℕ)
+  pub outcome : Outcome
   pub entries : List (List (List ℕ × List ℕ))
   pub files : List (List ℕ)
   pub children : List A
@@ -49,8 +48,7 @@ layer_view n = record {
   is_isolated = n.is_isolated;
   locks = n.locks.items;
   skip = text_of n.skip;
-  status = n.status;
-  message = text_of n.message;
+  outcome = n.outcome;
   entries = map (λ e. pairs_of e.items) n.entries.items;
   files = texts_of n.files.items;
   children = n.children.items;
@@ -72,8 +70,7 @@ plain dtype segment name = record {
   is_isolated = false;
   locks = [];
   skip = None;
-  status = Successful;
-  message = None;
+  outcome = Successful;
   entries = [];
   files = [];
   children = [];

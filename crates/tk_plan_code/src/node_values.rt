@@ -3,14 +3,14 @@ ghost use Rattle.std.specs.Prelude.{◌≡◌, ◌++◌, map, IfOk, OnOk};
 ghost use Rattle.serde_json.specs.Data.{no_members, string};
 ghost use Rattle.serde_json.specs.View.{view, members_view};
 ghost use Rattle.tk_plan_code.specs.NodeJson.{with_members, lock_json, result_json, entry_json, heading_members, concurrency_members, content_members, node_json, plan_data};
-ghost use Rattle.tk_plan_code.specs.NodeViews.{node_view, text_of, texts_of, pairs_of};
+ghost use Rattle.tk_plan_code.specs.NodeViews.{node_view, texts_of, pairs_of};
 
 use crate::json_members::{Members, pair_value, put_array, put_isolated, put_mode, put_text};
 use crate::plan_nodes::{PlanLock, PlanNode};
 use crate::words::{dtype_word, lock_mode_word, status_word};
 use serde_json::{Map, Number, Value, put};
 use std::alloc::{AllocError, Global};
-use tk_events::Status;
+use tk_events::Outcome;
 
 fn lock_value(alloc: Global, lock: &PlanLock<'_>) -> Result<Value, AllocError>
     ensures { IfOk result (λ v. view v ≡ lock_json lock.now) }
@@ -37,12 +37,13 @@ fn lock_values(alloc: Global, locks: &[PlanLock<'_>]) -> Result<Vec<Value>, Allo
     Ok(values)
 }
 
-fn result_value(alloc: Global, status: Status, message: Option<&str>) -> Result<Value, AllocError>
-    ensures { IfOk result (λ v. view v ≡ result_json status (text_of message.entry)) }
+fn result_value(alloc: Global, outcome: &Outcome) -> Result<Value, AllocError>
+    ensures { IfOk result (λ v. view v ≡ result_json outcome.now) }
 {
     let mut members = Map::new(alloc);
-    let status = Value::try_from_str(alloc, status_word(status))?;
+    let status = Value::try_from_str(alloc, status_word(outcome.status()))?;
     put(&mut members, alloc, "status", status)?;
+    let message = outcome.message().map(|message| message.as_str());
     put_text(alloc, &mut members, "message", message)?;
     Ok(Value::Object(members))
 }
@@ -118,7 +119,7 @@ fn put_content(alloc: Global, members: &mut Members, node: &PlanNode<'_>) -> Res
         (content_members (node_view node.now))) }
 {
     put_text(alloc, members, "skip", node.skip)?;
-    let result = result_value(alloc, node.status, node.message)?;
+    let result = result_value(alloc, &node.outcome)?;
     put(members, alloc, "result", result)?;
     let entries = entry_values(alloc, node.entries.as_slice())?;
     put_array(alloc, members, "entries", entries)?;

@@ -2,12 +2,12 @@
 ghost use Rattle.std.specs.Prelude.{◌≡◌, ◌++◌, ◌∷◌, [], true, Some, IfOk};
 ghost use Rattle.tk_ids.specs.declared.descriptors.DType.TheVariants.{Container, Test, Both};
 ghost use Rattle.tk_plan_code.specs.Bodies.{bodies_of};
-ghost use Rattle.tk_plan_code.specs.NodeViews.{node_view, plain, pairs_of, text_of};
+ghost use Rattle.tk_plan_code.specs.NodeViews.{node_view, plain, pairs_of};
 
 use crate::bodies::Bodies;
 use crate::modes::ExecutionMode;
 use std::alloc::{AllocError, Global};
-use tk_events::Status;
+use tk_events::Outcome;
 use tk_ids::{DType, LockMode};
 
 /// A lock that a node asks for.
@@ -19,8 +19,8 @@ pub struct PlanLock<'t> {
     pub mode: LockMode,
 }
 
-/// A node of a plan in code, with all nodes below it. It borrows its texts, which `build_plan`
-/// copies.
+/// A node of a plan in code, with all nodes below it. It borrows its texts but the message of its
+/// outcome; `build_plan` copies them all.
 ///
 /// Each field but `body` is a member of a node in JSON (docs/FORMATS.md, Plan JSON), and is checked
 /// as that member is: only a static node may have a mode, be isolated, have locks or children.
@@ -42,10 +42,8 @@ pub struct PlanNode<'t> {
     pub locks: Vec<PlanLock<'t>>,
     /// Why the node is skipped, if it is.
     pub skip: Option<&'t str>,
-    /// How the node finishes where its script is played: the `status` of the member `result`.
-    pub status: Status,
-    /// The `message` of the member `result`.
-    pub message: Option<&'t str>,
+    /// How the node finishes where its script is played: the member `result`.
+    pub outcome: Outcome,
     /// The entries that the node publishes, each a list of keys and values.
     pub entries: Vec<Vec<(&'t str, &'t str)>>,
     /// The paths of the files that it publishes.
@@ -79,8 +77,7 @@ impl<'t> PlanNode<'t> {
             is_isolated: false,
             locks: Vec::new(alloc),
             skip: None,
-            status: Status::Successful,
-            message: None,
+            outcome: Outcome::Successful,
             entries: Vec::new(alloc),
             files: Vec::new(alloc),
             children: Vec::new(alloc),
@@ -152,15 +149,11 @@ impl<'t> PlanNode<'t> {
         self
     }
 
-    /// Sets how the node finishes where its script is played. A success has no message.
-    pub fn outcome(mut self, status: Status, message: Option<&'t str>) -> PlanNode<'t>
-        ensures { node_view result ≡ record (node_view self.entry) {
-          status = status;
-          message = text_of message.entry;
-        } }
+    /// Sets how the node finishes where its script is played.
+    pub fn outcome(mut self, outcome: Outcome) -> PlanNode<'t>
+        ensures { node_view result ≡ record (node_view self.entry) { outcome = outcome } }
     {
-        self.status = status;
-        self.message = message;
+        self.outcome = outcome;
         self
     }
 
