@@ -5,5 +5,4 @@ pub mod UnknownMembers
 pub mod LockItems
 pub mod HandedFaults
 pub mod EntryPairs
-pub mod Results
 pub mod LawfulFiles

@@ -1,6 +1,6 @@
 -- What the members of a node say, where nothing is wrong with them.
 use Rattle.std.specs.Prelude.{ℕ, ◌||◌, ◌++◌, List, [], ◌∷◌, Bool, true, false, Option, Some}
-use Rattle.std.specs.Prelude.{None, option_and_then, if◌then◌else◌, map, codes}
+use Rattle.std.specs.Prelude.{None, option_and_then, unwrap_or, if◌then◌else◌, map, codes}
 use Rattle.std.specs.List.{list_any}
 use Rattle.std.specs.Str.{bytes_eq}
 use Rattle.std.specs.Ordering.{nat_cmp}
@@ -14,6 +14,9 @@ use Rattle.tk_ids.specs.declared.descriptors.DType.TheVariants.{Container, Test,
 use Rattle.tk_ids.specs.declared.locks.Lock.{Lock}
 use Rattle.tk_ids.specs.declared.locks.LockMode.{LockMode}
 use Rattle.tk_ids.specs.declared.locks.LockMode.TheVariants.{Read, ReadWrite}
+use Rattle.tk_events.specs.Outcomes.{outcome_with}
+use Rattle.tk_events.specs.declared.outcomes.Outcome.{Outcome}
+use Rattle.tk_events.specs.declared.outcomes.Outcome.TheVariants as outcomes
 use Rattle.tk_events.specs.declared.statuses.Status.{Status}
 use Rattle.tk_events.specs.declared.statuses.Status.TheVariants.{Successful, Aborted, Failed}
 use Rattle.tk_plan_json_members.specs.Checks.{list_of}
@@ -78,20 +81,21 @@ json_lock d =
 abbrev pub json_locks : Option Data → List Lock
 json_locks d = map json_lock (listed d)
 
--- a node is successful where it has no result
+-- a status, by its word
 abbrev pub json_status : Option Data → Status
 json_status (Some (string s)) =
     if bytes_eq s (codes "aborted") then Aborted
     else (if bytes_eq s (codes "failed") then Failed else Successful)
 json_status _ = Successful
 
--- the status of a result
-abbrev pub status_in : Option Data → Status
-status_in d = json_status (option_and_then (get (codes "status")) d)
+-- the outcome that a result says, unless it is a success with a message
+abbrev pub outcome_in : Data → Option Outcome
+outcome_in d =
+    outcome_with (json_status (get (codes "status") d)) (json_optional (get (codes "message") d))
 
--- the message of a result
-abbrev pub message_in : Option Data → Option (List ℕ)
-message_in d = json_optional (option_and_then (get (codes "message")) d)
+-- a node is successful where it has no result
+abbrev pub json_outcome : Option Data → Outcome
+json_outcome d = unwrap_or (option_and_then outcome_in d) outcomes.Successful
 
 -- the pairs of an entry, as they are written
 abbrev pub written : Data → List (List ℕ × List ℕ)

@@ -1,20 +1,13 @@
--- What readers of a node's result, entries and files hand on.
-use Rattle.std.specs.Prelude.{◌≡◌, Bool, true, ℕ, List, Option, map}
+-- What readers of a node's entries and files hand on.
+use Rattle.std.specs.Prelude.{◌≡◌, Bool, true, ℕ, List, map}
 use Rattle.std.specs.List.{list_all, list_any}
 use Rattle.serde_json.specs.Data.{Data}
 use Rattle.tk_events.specs.Event.{is_strictly_increasing, is_lawful}
-use Rattle.tk_events.specs.declared.kinds.Kind.TheVariants.{Finished, File}
-use Rattle.tk_events.specs.declared.payloads.Payload.TheVariants.{Outcome, Path}
-use Rattle.tk_plan_json_members.specs.Contents.{status_in, message_in, json_entry, files_of}
+use Rattle.tk_events.specs.declared.kinds.Kind.TheVariants.{File}
+use Rattle.tk_events.specs.declared.payloads.Payload.TheVariants.{Path}
+use Rattle.tk_plan_json_members.specs.Contents.{json_entry, files_of}
 use Rattle.tk_plan_json_members.specs.Contents.{repeats as repeats_in}
-use Rattle.tk_plan_json_members.specs.declared.member_values.NodeResult.{NodeResult}
 use Rattle.tk_plan_json_members.specs.declared.member_values.Reports.{Reports}
-
--- the status and the message of a result, which a finish may have
-pub record IsNodeResult (d : Option Data) (e : NodeResult) : Type 0 where
-  pub status : e.status ≡ status_in d
-  pub message : e.message ≡ message_in d
-  pub lawful : is_lawful Finished (Outcome e.status e.message) ≡ true
 
 -- the pairs of the entries, and whether an entry has a key twice
 pub record AreReports (ds : List Data) (r : Reports) : Type 0 where

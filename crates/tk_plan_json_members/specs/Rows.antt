@@ -1,12 +1,11 @@
 -- The members of a node, in the order in which they are checked.
-use Rattle.std.specs.Prelude.{◌==◌, List, [], ◌∷◌, ◌++◌, length, Bool, true, false, codes, Option}
-use Rattle.std.specs.Prelude.{Some, None, is_some, ◌&&◌, if◌then◌else◌}
-use Rattle.std.specs.Str.{bytes_eq}
+use Rattle.std.specs.Prelude.{◌==◌, List, [], ◌∷◌, ◌++◌, length, Bool, true, false, codes}
+use Rattle.std.specs.Prelude.{Some, None, is_some, if◌then◌else◌}
 use Rattle.std.specs.Option.{option_or}
-use Rattle.serde_json.specs.Data.{Data, string}
-use Rattle.serde_json.specs.Find.{get}
+use Rattle.serde_json.specs.Data.{string}
 use Rattle.tk_plan_json_members.specs.Checks.{Check, Row, must, may, text, truth, one_of, any_array}
 use Rattle.tk_plan_json_members.specs.Checks.{array_of, pair_of, object_of, member_at}
+use Rattle.tk_plan_json_members.specs.Contents.{outcome_in}
 
 abbrev pub dtype_row : Row
 dtype_row = must (codes "type") (one_of (codes "container" ∷ codes "test" ∷ codes "both" ∷ []))
@@ -43,16 +42,10 @@ status_row =
 abbrev pub message_row : Row
 message_row = may (codes "message") text
 
--- whether the status is `successful`
-abbrev pub succeeds : Option Data → Bool
-succeeds (Some (string s)) = bytes_eq s (codes "successful")
-succeeds _ = false
-
 -- a successful result has no message
 abbrev pub message_wrong : Check
 message_wrong at d =
-    if succeeds (get (codes "status") d) && is_some (get (codes "message") d)
-    then Some (member_at at (codes "message")) else None
+    if is_some (outcome_in d) then None else Some (member_at at (codes "message"))
 
 -- a result has a status, and maybe a message where it is not a success
 abbrev pub result : Check

@@ -1,7 +1,6 @@
 //! What readers of members hand on.
 
-use tk_events::{Pairs, Status};
-use tk_ids::Text;
+use tk_events::Pairs;
 use tk_plan::Entries;
 
 /// The texts of an array of two.
@@ -9,13 +8,6 @@ use tk_plan::Entries;
 pub struct TwoTexts<'v> {
     pub first: &'v str,
     pub second: &'v str,
-}
-
-/// How a node finishes.
-#[derive(Drop)]
-pub struct NodeResult {
-    pub status: Status,
-    pub message: Option<Text>,
 }
 
 /// One entry, with its pairs in the order of their keys.

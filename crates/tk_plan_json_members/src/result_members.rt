@@ -10,20 +10,20 @@ ghost use Rattle.tk_plan_json_members.specs.Checks.{array_of, item_at, pair_of, 
 ghost use Rattle.tk_plan_json_members.specs.Rows.{status_row, result_row, entries_row, entry as is_entry, result as is_result};
 ghost use Rattle.tk_plan_json_members.specs.Pointers.{pointer, viewed, wrong_at};
 ghost use Rattle.tk_plan_json_members.specs.Answers.{Reads};
-ghost use Rattle.tk_plan_json_members.specs.Contents.{json_status, listed};
-ghost use Rattle.tk_plan_json_members.specs.MemberValues.{IsNodeResult, AreReports};
+ghost use Rattle.tk_plan_json_members.specs.Contents.{json_outcome, json_status, listed};
+ghost use Rattle.tk_plan_json_members.specs.MemberValues.{AreReports};
 ghost use Rattle.tk_plan_json_members.specs.steps.{has_key, IsOnlyPair, IsReport};
 
 use crate::faults::PlanFault;
 use crate::json_members::{check_members, optional_member, two_texts};
 use crate::json_paths::JsonPath;
 use crate::json_values::items_in;
-use crate::member_values::{NodeResult, Report, Reports, TwoTexts};
+use crate::member_values::{Report, Reports, TwoTexts};
 use crate::path_texts::{member_path, wrong_item, wrong_member, wrong_value};
 use serde_json::Value;
 use std::alloc::{AllocError, Global};
 use std::collections::BTreeMap;
-use tk_events::{Pairs, Status};
+use tk_events::{Outcome, Pairs, Status};
 use tk_ids::Text;
 use tk_plan::Entries;
 
@@ -39,17 +39,17 @@ fn status_member(alloc: Global, at: JsonPath<'_>, object: &Value) -> Result<Stat
     }
 }
 
-fn node_result(alloc: Global, at: JsonPath<'_>, value: &Value) -> Result<NodeResult, PlanFault>
+fn outcome(alloc: Global, at: JsonPath<'_>, value: &Value) -> Result<Outcome, PlanFault>
     ensures { Reads (is_result (pointer at.entry) (view value.now))
-        (IsNodeResult (Some (view value.now))) result }
+        (λ outcome. outcome ≡ json_outcome (Some (view value.now))) result }
 {
     check_members(alloc, at, value, &["status", "message"])?;
     let status = status_member(alloc, at, value)?;
     let message = optional_member(alloc, at, "message", value.get("message"))?;
-    if status == Status::Successful && message.is_some() {
-        return Err(wrong_member(alloc, at, "message"));
+    match Outcome::with(status, message) {
+        Some(outcome) => Ok(outcome),
+        None => Err(wrong_member(alloc, at, "message")),
     }
-    Ok(NodeResult { status, message })
 }
 
 /// Reads the member `result` of a node, which is successful where it is absent.
@@ -61,19 +61,16 @@ pub fn result_member(
     alloc: Global,
     at: JsonPath<'_>,
     value: Option<&Value>,
-) -> Result<NodeResult, PlanFault>
+) -> Result<Outcome, PlanFault>
     ensures { Reads (wrong_at at.entry result_row value.entry)
-        (IsNodeResult (viewed value.entry)) result }
+        (λ outcome. outcome ≡ json_outcome (viewed value.entry)) result }
 {
     match value {
         Some(value) => {
             let path = member_path(alloc, at, "result")?;
-            node_result(alloc, JsonPath::Whole(&path), value)
+            outcome(alloc, JsonPath::Whole(&path), value)
         }
-        None => Ok(NodeResult {
-            status: Status::Successful,
-            message: None,
-        }),
+        None => Ok(Outcome::Successful),
     }
 }
 
