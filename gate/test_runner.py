@@ -148,6 +148,7 @@ class Check(unittest.TestCase):
         else:
             self.assertEqual(counted, said.splitlines()[-1], said)
             self.assertRegex(said, r"\ncheck: \d+ minutes by the clock, \d+ of processor time, on \d+ processors\n")
+            self.assertEqual(words[1:] == [], "  0   " in said and "wrong bodies  runs  crate\n" in said, said)
         self.check_left(at, words[1:] != [], given["leaves"] != "")
 
     def check_left(self, at: str, is_quick: bool, leaves: bool) -> None:
@@ -169,7 +170,7 @@ class Check(unittest.TestCase):
     def repository(self, given: Dict[str, str]) -> str:
         """Makes a clean repository in which each command is a script; `rt` finds all but the slow test in each crate."""
         tools = [f"tools/{it}" for it in ("asking.py", "checked.py", "kept.py", "listener.py", "sources.sh")]
-        at = copy_of("check", ".ci/run", ".gitignore", "gate/fixtures.py", "gate/slow.py", *tools, to=folder(self))
+        at = copy_of("check", ".ci/run", ".gitignore", "gate/fixtures.py", "gate/slow.py", "gate/times.py", *tools, to=folder(self))
         rt = f'ci) {given["ci"]} ;;\nversion) echo "{KIT}"; echo more ;;\n"try --test --seconds 10") {given["tries"]} ;;'
         scripts = {"commands/rt": f'case "$*" in\n{rt}\nesac', "gate/run": given["gate"], "testkit": given["testkit"]}
         scripts["commands/javac"] = "echo javac 99"
