@@ -1,6 +1,6 @@
 -- The demo plan is a plan, and a record of it by two workers is a run.
 use Rattle.std.proofs.Common.{◌≡◌, ◌<◌, ℕ, zero, suc, ◌+◌, Bool, true, false, not, ◌&&◌, codes, ◌*◌, nat_lt, nat_le, ◌==◌, List, [], ◌∷◌}
-use Rattle.std.proofs.Common.{◌++◌, flat_map, All, Some, None, slice_get, sum_by, refl, sym, ap, ◌∙◌, subst, arith, tests}
+use Rattle.std.proofs.Common.{◌++◌, flat_map, All, Some, slice_get, sum_by, refl, sym, ap, ◌∙◌, subst, arith, tests}
 use Rattle.std.specs.List.{list_any, list_all}
 use Rattle.std.proofs.lemmas.Bool.{and_parts, or_right, not-true}
 use Rattle.std.proofs.lemmas.Option.{same_Some}
@@ -9,7 +9,7 @@ use Rattle.tk_ids.specs.declared.descriptors.DType.TheVariants.{Test}
 use Rattle.tk_events.specs.declared.events.Event.{Event}
 use Rattle.tk_events.specs.declared.events.Entry.{Entry}
 use Rattle.tk_events.specs.declared.kinds.Kind.TheVariants.{Dynamic, Started, Finished}
-use Rattle.tk_events.specs.declared.statuses.Status.TheVariants.{Successful}
+use Rattle.tk_events.specs.declared.outcomes.Outcome.TheVariants.{Successful}
 use Rattle.tk_events.specs.declared.payloads.Payload.TheVariants.{Nothing, Outcome, Described}
 use Rattle.tk_record.specs.Recorded.{Recorded}
 use Rattle.tk_record.specs.Mixing.{IsWorkerOf, of_worker}
@@ -36,8 +36,8 @@ unit_three : played demo 7 131072 [] (script_of (forest demo) 3)
     ≡ event Started 6 10 Nothing
     ∷ event Dynamic 131072 11 (Described (record { id = pair (codes "engine") (codes "demo") ∷ pair (codes "class") (codes "D") ∷ pair (codes "dyn") (codes "1") ∷ []; name = codes "one"; dtype = Test; locks = [] }))
     ∷ event Started 131072 12 Nothing
-    ∷ event Finished 131072 13 (Outcome Successful None)
-    ∷ event Finished 6 14 (Outcome Successful None)
+    ∷ event Finished 131072 13 (Outcome Successful)
+    ∷ event Finished 6 14 (Outcome Successful)
     ∷ []
 unfolding forest grow
 unit_three = refl

@@ -40,7 +40,7 @@ abbrev id_emitted : Payload → List (List SegmentView)
 id_emitted (Described d) = d.id ∷ []
 id_emitted Nothing = []
 id_emitted (Reason r) = []
-id_emitted (Outcome s m) = []
+id_emitted (Outcome o) = []
 id_emitted (Reported e) = []
 id_emitted (Path p) = []
 
@@ -84,7 +84,7 @@ found_by false m o l e = e
 found_by true (Described d) o l e = refl
 found_by true Nothing o l e = e
 found_by true (Reason r) o l e = e
-found_by true (Outcome s r) o l e = e
+found_by true (Outcome r) o l e = e
 found_by true (Reported p) o l e = e
 found_by true (Path p) o l e = e
 

@@ -5,8 +5,8 @@ use Rattle.tk_ids.specs.IdText.{SegmentView}
 use Rattle.tk_ids.specs.declared.descriptors.DType.{DType}
 use Rattle.tk_ids.specs.declared.descriptors.DType.TheVariants.{Container, Test}
 use Rattle.tk_ids.specs.declared.descriptors.Descriptor.{Descriptor}
-use Rattle.tk_events.specs.declared.statuses.Status.{Status}
-use Rattle.tk_events.specs.declared.statuses.Status.TheVariants.{Successful, Failed}
+use Rattle.tk_events.specs.declared.outcomes.Outcome.{Outcome}
+use Rattle.tk_events.specs.declared.outcomes.Outcome.TheVariants.{Successful, Failed}
 use Rattle.tk_record.specs.Statistics.{statistics_of}
 use Rattle.tk_record_text.specs.Spelling.{joined}
 use Rattle.tk_record.specs.StatisticTexts.{statistics_text}
@@ -22,8 +22,8 @@ use Rattle.tk_plan_laws.specs.Reports.{report_of_plan}
 abbrev pub pair : List ℕ → List ℕ → SegmentView
 pair tag value = record { tag = tag; value = value }
 
-abbrev node : Bool → DType → SegmentView → List ℕ → Bool → Option (List ℕ) → Status → Option (List ℕ) → Node
-node is_static dtype segment name is_concurrent skip status message = record {
+abbrev node : Bool → DType → SegmentView → List ℕ → Bool → Option (List ℕ) → Outcome → Node
+node is_static dtype segment name is_concurrent skip outcome = record {
   is_static = is_static;
   dtype = dtype;
   segment = segment;
@@ -32,8 +32,7 @@ node is_static dtype segment name is_concurrent skip status message = record {
   is_isolated = false;
   locks = [];
   skip = skip;
-  status = status;
-  message = message;
+  outcome = outcome;
   entries = [];
   files = [];
 }
@@ -45,14 +44,14 @@ numbered_node n k span = record { node = n; number = k; span = span }
 
 abbrev pub demo : List NumberedNode
 demo =
-    numbered_node (node true Container (pair (codes "engine") (codes "demo")) (codes "demo") false None Successful None) 0 8
-    ∷ numbered_node (node true Container (pair (codes "class") (codes "A")) (codes "A") true None Successful None) 1 2
-    ∷ numbered_node (node true Test (pair (codes "method") (codes "m")) (codes "m") false None Successful None) 2 1
-    ∷ numbered_node (node true Container (pair (codes "class") (codes "B")) (codes "B") true None Successful None) 3 2
-    ∷ numbered_node (node true Test (pair (codes "method") (codes "m")) (codes "m") false None Failed (Some (codes "boom"))) 4 1
-    ∷ numbered_node (node true Container (pair (codes "class") (codes "C")) (codes "C") true (Some (codes "off")) Successful None) 5 1
-    ∷ numbered_node (node true Container (pair (codes "class") (codes "D")) (codes "D") true None Successful None) 6 2
-    ∷ numbered_node (node false Test (pair (codes "dyn") (codes "1")) (codes "one") false None Successful None) 7 1
+    numbered_node (node true Container (pair (codes "engine") (codes "demo")) (codes "demo") false None Successful) 0 8
+    ∷ numbered_node (node true Container (pair (codes "class") (codes "A")) (codes "A") true None Successful) 1 2
+    ∷ numbered_node (node true Test (pair (codes "method") (codes "m")) (codes "m") false None Successful) 2 1
+    ∷ numbered_node (node true Container (pair (codes "class") (codes "B")) (codes "B") true None Successful) 3 2
+    ∷ numbered_node (node true Test (pair (codes "method") (codes "m")) (codes "m") false None (Failed (Some (codes "boom")))) 4 1
+    ∷ numbered_node (node true Container (pair (codes "class") (codes "C")) (codes "C") true (Some (codes "off")) Successful) 5 1
+    ∷ numbered_node (node true Container (pair (codes "class") (codes "D")) (codes "D") true None Successful) 6 2
+    ∷ numbered_node (node false Test (pair (codes "dyn") (codes "1")) (codes "one") false None Successful) 7 1
     ∷ []
 
 abbrev pub demo_table : List Descriptor
@@ -110,7 +109,7 @@ demo_report =
 -- ---- the plan of one test
 
 abbrev one_test : List NumberedNode
-one_test = numbered_node (node true Test (pair (codes "engine") (codes "e")) (codes "e") false None Successful None) 0 1 ∷ []
+one_test = numbered_node (node true Test (pair (codes "engine") (codes "e")) (codes "e") false None Successful) 0 1 ∷ []
 
 abbrev one_table : List Descriptor
 one_table = descriptors_below [] (forest one_test)
@@ -140,7 +139,7 @@ one_report =
 
 abbrev two_files : List NumberedNode
 two_files =
-    numbered_node (record (node true Test (pair (codes "engine") (codes "e")) (codes "e") false None Successful None) { files = codes "a" ∷ codes "b" ∷ [] }) 0 1
+    numbered_node (record (node true Test (pair (codes "engine") (codes "e")) (codes "e") false None Successful) { files = codes "a" ∷ codes "b" ∷ [] }) 0 1
     ∷ []
 
 abbrev files_table : List Descriptor
