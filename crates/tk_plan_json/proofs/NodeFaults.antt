@@ -1,5 +1,5 @@
 -- Faults with the nodes that have them.
-use Rattle.std.proofs.Common.{◌≡◌, ℕ, Option, Some, None, option_map, Result, Ok, Err, refl, sym, ap, ◌∙◌}
+use Rattle.std.proofs.Common.{◌≡◌, ℕ, Option, Some, None, option_map, Result, Ok, Err, refl, ap, ◌∙◌}
 use Rattle.tk_plan_json_members.specs.Refusals.{IsFault}
 use Rattle.tk_plan_json.specs.Verdicts.{FaultsAt, MeetsAt, at_node}
 use Rattle.tk_plan_json.specs.steps.Fields.{Faults, as_node_fault}

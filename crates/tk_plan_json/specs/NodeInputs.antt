@@ -11,8 +11,8 @@ use Rattle.tk_plan.specs.Trees.{Tree, tree, Forest, no_trees, more}
 use Rattle.tk_plan_json_members.specs.Checks.{member_at, item_at}
 use Rattle.tk_plan_json_members.specs.Contents.{json_text, json_optional, json_truth, json_dtype}
 use Rattle.tk_plan_json_members.specs.Contents.{json_segment, json_concurrent, json_locks}
-use Rattle.tk_plan_json_members.specs.Contents.{status_in}
-use Rattle.tk_plan_json_members.specs.Contents.{message_in, json_entries, files_of, repeats, listed}
+use Rattle.tk_plan_json_members.specs.Contents.{json_outcome, json_entries, files_of, repeats}
+use Rattle.tk_plan_json_members.specs.Contents.{listed}
 
 -- A value that stands for a node: its place as a JSON Pointer, its level, whether it is static,
 -- whether it may have files as in version 2, its parent's id, and the segments of the siblings
@@ -84,8 +84,7 @@ node_of s = record {
   is_isolated = isolated_of s.is_static s.value;
   locks = locks_of s.is_static s.value;
   skip = json_optional (get (codes "skip") s.value);
-  status = status_in (get (codes "result") s.value);
-  message = message_in (get (codes "result") s.value);
+  outcome = json_outcome (get (codes "result") s.value);
   entries = json_entries (get (codes "entries") s.value);
   files = files_of s.takes_files s.value;
 }

@@ -107,8 +107,7 @@ fn into_checked(is_static: bool, named: Named, fields: Fields<'_>) -> Checked
         is_isolated: concurrency.is_isolated,
         locks: concurrency.locks,
         skip: content.skip,
-        status: content.result.status,
-        message: content.result.message,
+        outcome: content.outcome,
         entries: content.reports.entries,
         files: content.files,
     };

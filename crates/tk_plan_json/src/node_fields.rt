@@ -11,6 +11,7 @@ ghost use Rattle.tk_plan_json.specs.steps.Fields.{heading_rows, concurrency_rows
 use crate::node_members::NodeMembers;
 use serde_json::Value;
 use std::alloc::Global;
+use tk_events::Outcome;
 use tk_ids::{DType, Text};
 use tk_plan::{Files, NodeLocks};
 use tk_plan_json_members::PlanFault;
@@ -22,7 +23,7 @@ use tk_plan_json_members::json_members::{
 use tk_plan_json_members::json_paths::JsonPath;
 use tk_plan_json_members::json_values::{into_items, into_members};
 use tk_plan_json_members::lock_members::locks_member;
-use tk_plan_json_members::member_values::{NodeResult, Reports, TwoTexts};
+use tk_plan_json_members::member_values::{Reports, TwoTexts};
 use tk_plan_json_members::result_members::{entries_member, result_member};
 
 /// What the members `type`, `segment` and `name` of a node say.
@@ -45,7 +46,7 @@ pub(crate) struct Concurrency {
 #[derive(Drop)]
 pub(crate) struct Content {
     pub skip: Option<Text>,
-    pub result: NodeResult,
+    pub outcome: Outcome,
     pub reports: Reports,
     pub files: Files,
 }
@@ -113,12 +114,12 @@ fn content_members(
         (IsContent takes_files d) result }
 {
     let skip = optional_member(alloc, at, "skip", members.skip)?;
-    let result = result_member(alloc, at, members.result)?;
+    let outcome = result_member(alloc, at, members.result)?;
     let reports = entries_member(alloc, at, members.entries)?;
     let files = files_member(alloc, at, members.value, takes_files)?;
     Ok(Content {
         skip,
-        result,
+        outcome,
         reports,
         files,
     })

@@ -5,14 +5,15 @@ use Rattle.serde_json.specs.Data.{Data}
 use Rattle.serde_json.specs.Find.{get}
 use Rattle.serde_json.specs.View.{view}
 use Rattle.tk_plan_json_members.specs.Checks.{Row}
-use Rattle.tk_plan_json_members.specs.Contents.{json_text, json_optional, json_dtype, listed}
+use Rattle.tk_plan_json_members.specs.Contents.{json_text, json_optional, json_dtype}
+use Rattle.tk_plan_json_members.specs.Contents.{json_outcome, listed}
 use Rattle.tk_plan_json_members.specs.Rows.{dtype_row, segment_row, name_row, mode_row}
 use Rattle.tk_plan_json_members.specs.Rows.{isolated_row, locks_row, skip_row, result_row}
 use Rattle.tk_plan_json_members.specs.Rows.{entries_row, files_rows, children_row, dynamic_row}
 use Rattle.tk_plan_json.specs.NodeInputs.{concurrent_of, isolated_of, locks_of, children_of}
 use Rattle.tk_plan_json.specs.NodeInputs.{dynamic_of}
 use Rattle.tk_plan_json_members.specs.Pointers.{viewed, IsPairOf}
-use Rattle.tk_plan_json_members.specs.MemberValues.{IsNodeResult, AreReports, AreFiles}
+use Rattle.tk_plan_json_members.specs.MemberValues.{AreReports, AreFiles}
 use Rattle.tk_plan_json.specs.declared.node_fields.Heading.{Heading}
 use Rattle.tk_plan_json.specs.declared.node_fields.Concurrency.{Concurrency}
 use Rattle.tk_plan_json.specs.declared.node_fields.Content.{Content}
@@ -76,7 +77,7 @@ pub record IsConcurrency (is_static : Bool) (d : Data) (m : Concurrency) : Type 
 -- what a node emits, as its members say
 pub record IsContent (takes_files : Bool) (d : Data) (c : Content) : Type 0 where
   pub skip : c.skip ≡ json_optional (get (codes "skip") d)
-  pub result : IsNodeResult (get (codes "result") d) c.result
+  pub outcome : c.outcome ≡ json_outcome (get (codes "result") d)
   pub reports : AreReports (listed (get (codes "entries") d)) c.reports
   pub files : AreFiles takes_files d c.files
 
@@ -99,8 +100,7 @@ checked_of is_static n f = record {
     is_isolated = f.concurrency.is_isolated;
     locks = f.concurrency.locks;
     skip = f.content.skip;
-    status = f.content.result.status;
-    message = f.content.result.message;
+    outcome = f.content.outcome;
     entries = f.content.reports.entries;
     files = f.content.files;
   };

@@ -35,14 +35,13 @@ returns c =
           is_isolated = f.1.concurrency.is_isolated i;
           locks = f.1.concurrency.locks i;
           skip = f.1.content.skip i;
-          status = f.1.content.result.status i;
-          message = f.1.content.result.message i;
+          outcome = f.1.content.outcome i;
           entries = f.1.content.reports.entries i;
           files = f.1.content.files.paths i;
         };
         id = n.1.id;
         leaf = f.1.leaf;
-        lawful = and_from _ _ f.1.content.result.lawful (and_from _ _ f.1.content.reports.increasing f.1.content.files.lawful);
+        lawful = and_from _ _ f.1.content.reports.increasing f.1.content.files.lawful;
         level = c.if-node_input-gt-MAX_LEVELS.false;
         entered = n.1.entered;
       },
