@@ -21,7 +21,7 @@ fn read_worker(field: &[u8], workers: u8) -> Option<u8>
 }
 
 /// Reads the line of the number of workers.
-#[tactic(auto, unfolding(crate::specs::steps::Script::workers_of))]
+#[tactic(auto, unfolding(crate::specs::steps::Replay::workers_of))]
 pub(crate) fn read_workers(line: &[u8]) -> Option<u8>
     ensures { result ≡ in_line workers_of line.now }
 {
@@ -70,7 +70,7 @@ fn read_turn_fields(
 }
 
 /// Reads the line of the turns, of a session of `workers` workers.
-#[tactic(auto, unfolding(crate::specs::steps::Script::turns_of))]
+#[tactic(auto, unfolding(crate::specs::steps::Replay::turns_of))]
 pub(crate) fn read_turns(
     alloc: Global,
     line: &[u8],
