@@ -21,9 +21,10 @@ use Rattle.tk_report_text.specs.Labels.{Label, id_in, label, labels, name, same_
 use Rattle.tk_report_text.proofs.Ids.{same_decides}
 use Rattle.tk_plan_laws.specs.Listening.{finishes, is_of, skips, starts}
 use Rattle.tk_plan_laws.specs.Scripts.{IsRunOf, id_at}
-use Rattle.tk_plan_laws.proofs.RecordIds.{label_at, labelled, last_segment}
-use Rattle.tk_plan_laws.proofs.RecordLifecycle.{run_described, run_one_key}
-use Rattle.tk_plan_laws.proofs.ListenerSteps.{finish_or_skip, finish_ran, listener_law, once, ran_of, same_one, skip_ran, skipped_alone}
+use Rattle.tk_plan_laws.proofs.RecordIds.{label_at, labelled, last_segment, ran_of}
+use Rattle.tk_plan_laws.proofs.RunLifecycle.{run_described, run_listens, run_one_key}
+use Rattle.tk_plan_laws.proofs.RunLabels.{same_one}
+use Rattle.tk_plan_laws.proofs.LifecycleToListener.{finish_or_skip, finish_ran, skip_ran, skipped_alone}
 use Rattle.tk_plan_laws.proofs.Lists.{Each, each-append, each_at, each_weaker}
 use Rattle.tk_plan_laws.proofs.MoveLabels.{AreBuilt, IsBuilt, Move, act_label, move_label, moves_in, plan_labels, publications}
 use Rattle.tk_plan_laws.proofs.PlanTrees.{IsPlanTree}
@@ -215,11 +216,11 @@ module _ (all : List NumberedNode) (table : List Descriptor) (workers : ℕ) (r 
           ⊎_elim {C = ⊥}
           (λ (same : parent_of own ≡ u.above).
           let ran = filter (ran_of u.above) (labels r) in
-          skipped_alone Finished finish_or_skip u.above ran (once all table workers r plan run u.above)
+          skipped_alone Finished finish_or_skip u.above ran ((run_listens all table workers r plan run).once u.above)
           (sym (any_kept (ran_of u.above) (finishes u.above) (finish_ran u.above) (labels r)) ∙ parent_finish u.above (sym same))
           (sym (any_kept (ran_of u.above) (skips u.above) (skip_ran u.above) (labels r)) ∙ u.skipped))
           (λ (b : IsParentBelow u.above (parent_of own)).
-          let none = (listener_law all table workers r plan run).skipped u.above b.s b.more u.some u.skipped in
+          let none = (run_listens all table workers r plan run).skipped u.above b.s b.more u.some u.skipped in
           let e = s.succeeds.event in
           true≢false (sym (any_from (is_of (u.above ++ b.s ∷ b.more)) (labels r) s.succeeds.position (label (name r) e.event) (label_at r s.succeeds.position e s.succeeds.stands)
           ((same_decides (name r e.event.key) (u.above ++ b.s ∷ b.more)).1 (parent_name ∙ b.id_is))) ∙ none))

@@ -1,8 +1,8 @@
 pub mod Lists
 pub mod MoveLabels
 pub mod WorkerEvents
-pub mod Positions
 pub mod Orders
+pub mod Positions
 pub mod ChainCuts
 pub mod RegistrationCounts
 pub mod PlanTrees
@@ -14,11 +14,10 @@ pub mod RegisteredDescriptors
 pub mod RunChains
 pub mod SameReports
 pub mod Scripts
-pub mod ListenerSteps
 pub mod RecordIds
-pub mod RunRegistrations
-pub mod RecordLifecycle
+pub mod RunLabels
 pub mod LifecycleToListener
+pub mod RunLifecycle
 pub mod DueKeys
 pub mod Turns
 pub mod Stamps

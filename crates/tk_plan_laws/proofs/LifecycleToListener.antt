@@ -1,8 +1,8 @@
 -- A record that keeps the lifecycle has what a listener may rely on.
-use Rattle.std.proofs.Common.{◌≡◌, ◌≢◌, ◌<◌, ℕ, ◌⊎◌, ⊎_elim, Bool, true, false, not, ◌&&◌, ◌||◌, ◌==◌, List, [], ◌∷◌, ◌++◌, map, filter, length, length-append, take, is_some, Option, Some, None, slice_get, refl, sym, ap, ◌∙◌, subst, arith, eqb-true}
+use Rattle.std.proofs.Common.{◌≡◌, ◌≢◌, ◌<◌, ℕ, ◌+◌, ◌⊎◌, inl, inr, ⊎_elim, Bool, true, false, not, ◌&&◌, ◌||◌, ◌==◌, List, [], ◌∷◌, ◌++◌, map, filter, length, length-append, take, is_some, Option, Some, None, slice_get, refl, sym, ap, ap₂, ◌∙◌, subst, append_assoc, arith, tests, eqb-true}
 use Rattle.std.specs.Option.{option_or}
 use Rattle.std.specs.List.{list_any}
-use Rattle.std.proofs.lemmas.Bool.{true≢false, and_from, and_parts, cases_Bool, cases_order, or_left}
+use Rattle.std.proofs.lemmas.Bool.{true≢false, and_from, and_parts, cases_Bool, cases_order, or_left, or_right}
 use Rattle.std.proofs.lemmas.Option.{same_Some, get_or_from_slice_get, slice_get_within}
 use Rattle.tk_ids.specs.IdText.{SegmentView, parent_of}
 use Rattle.tk_ids.specs.Table.{AreDifferent}
@@ -10,22 +10,23 @@ use Rattle.tk_ids.specs.declared.descriptors.Descriptor.{Descriptor}
 use Rattle.tk_events.specs.declared.kinds.Kind.{Kind}
 use Rattle.tk_events.specs.declared.kinds.Kind.TheVariants.{Dynamic, Skipped, Started, Finished}
 use Rattle.tk_events.specs.declared.events.Entry.{Entry}
+use Rattle.tk_events.specs.Event.{kind_code}
 use Rattle.tk_record.specs.Recorded.{Recorded}
 use Rattle.tk_record.specs.Record.{IsRecord}
 use Rattle.tk_record.specs.Entries.{of_kind, desc_in, desc, with_entry}
 use Rattle.tk_query_lifecycle.specs.Lifecycle.{is_event, has_event, runs, HasId, KnowsId, first_entries}
 use Rattle.tk_query_lifecycle.specs.KeepsLifecycle.{steps_of, KeepsLifecycle}
-use Rattle.tk_query_lifecycle.proofs.FirstEntries.{desc_first, its_id}
+use Rattle.tk_query_lifecycle.proofs.FirstEntries.{desc_first, first_more, its_id}
 use Rattle.tk_query_lifecycle.proofs.IdMapLemmas.{known_or_new, static_desc}
 use Rattle.tk_query_lifecycle.proofs.StepLemmas.{Whole, none, skipped, ran, has, has_steps, to_whole}
 use Rattle.tk_report_text.specs.Labels.{Label, id_in, label, labels, name, same_kind}
 use Rattle.tk_report_text.proofs.Ids.{same_decides}
 use Rattle.tk_plan_laws.specs.Laws.{LifecycleIsReliedOn}
-use Rattle.tk_plan_laws.specs.Listening.{IsOnce, Listens, finishes, is_followed, is_of, is_ran, precedes, registers, starts}
-use Rattle.tk_plan_laws.proofs.ListenerSteps.{ran_of, skipped_from}
+use Rattle.tk_plan_laws.specs.Listening.{IsOnce, Listens, finishes, is_followed, is_of, is_ran, precedes, registers, skips, starts}
+use Rattle.tk_plan_laws.proofs.Orders.{Only, any_kept, none_passes, preceded}
 use Rattle.tk_plan_laws.proofs.Positions.{Earlier, Later, any_at, any_from, followed_from, in_taken, precedes_from, taken_at}
-use Rattle.tk_plan_laws.proofs.RecordIds.{AreDescribed, is_registered, kinds_of_id, label_at, labelled, last_segment, registration, same_kinds}
-use Rattle.tk_plan_laws.proofs.Scripts.{snoc_same}
+use Rattle.tk_plan_laws.proofs.RecordIds.{AreDescribed, AreKnown, is_registered, kinds_of_id, label_at, labelled, last_segment, ran_of, registration, same_kinds}
+use Rattle.tk_plan_laws.proofs.Scripts.{no_child_of_itself, snoc_same, snoc_some}
 
 -- ---- starts, skips and finishes
 
@@ -52,13 +53,71 @@ started_finishes ks (ran e) h = ap (has Finished) e
 no_registration : (k : Kind) → is_ran k ≡ true → same_kind k Dynamic ≡ true → ⊥
 no_registration k step dynamic = true≢false (sym step ∙ ap is_ran (same_kinds k Dynamic dynamic))
 
--- none of the elements passes
-none_passes : {A : Type 0} (p : A → Bool) (xs : List A) → list_any p xs ≡ false → filter p xs ≡ []
-none_passes p [] h = refl
-none_passes p (x ∷ xs) h = ⊎_elim
-    (λ t. absurd (true≢false (sym (or_left (p x) (list_any p xs) t) ∙ h)))
-    (λ f. rw f (none_passes p xs (sym (ap (λ b. b || list_any p xs) f) ∙ h)))
+-- ---- what is skipped
+
+start_or_skip : (k : Kind) → same_kind k Started ≡ true → same_kind k Skipped ≡ true → ⊥
+start_or_skip k s h = let a : kind_code k ≡ 3 = grind (arith, tests, s) in let b : kind_code k ≡ 2 = grind (arith, tests, h) in omega (arith, a, b)
+
+pub finish_or_skip : (k : Kind) → same_kind k Finished ≡ true → same_kind k Skipped ≡ true → ⊥
+finish_or_skip k f h = let a : kind_code k ≡ 4 = grind (arith, tests, f) in let b : kind_code k ≡ 2 = grind (arith, tests, h) in omega (arith, a, b)
+
+any_two : (b c : Bool) → (b || (c || false)) ≡ true → (b ≡ true) ⊎ (c ≡ true)
+any_two true c h = inl refl
+any_two false true h = inr refl
+any_two false false h = cc
+
+any_one : (b : Bool) → (b || false) ≡ true → b ≡ true
+any_one true h = refl
+any_one false h = cc
+
+-- where an id is skipped, nothing of it is of a kind that a skip isn't of
+pub skipped_alone : (other : Kind) → ((k : Kind) → same_kind k other ≡ true → same_kind k Skipped ≡ true → ⊥) → (i : List SegmentView) (ls : List Label)
+    → IsOnce ls → list_any (λ l. is_of i l && same_kind l.kind other) ls ≡ true → list_any (skips i) ls ≡ true → ⊥
+skipped_alone other differ i [] o s k = cc
+skipped_alone other differ i (x ∷ []) o s k = differ x.kind (and_parts (is_of i x) _ (any_one _ s)).1 o
+skipped_alone other differ i (x ∷ (y ∷ [])) o s k = ⊎_elim {C = ⊥}
+    (λ (h : skips i x ≡ true). start_or_skip x.kind o.0 (and_parts (is_of i x) _ h).1)
+    (λ (h : skips i y ≡ true). finish_or_skip y.kind o.1 (and_parts (is_of i y) _ h).1)
+    (any_two _ _ k)
+skipped_alone other differ i (x ∷ (y ∷ (z ∷ zs))) o s k = o
+
+start_ran : (i : List SegmentView) → Only (starts i) (ran_of i)
+start_ran i l h = ap₂ (λ b c. b && c) (and_parts (is_of i l) (same_kind l.kind Started) h).0
+    (or_left (same_kind l.kind Started) _ (and_parts (is_of i l) (same_kind l.kind Started) h).1)
+
+pub skip_ran : (i : List SegmentView) → Only (skips i) (ran_of i)
+skip_ran i l h = ap₂ (λ b c. b && c) (and_parts (is_of i l) (same_kind l.kind Skipped) h).0
+    (or_right (same_kind l.kind Started) _ (or_right (same_kind l.kind Finished) _ (and_parts (is_of i l) (same_kind l.kind Skipped) h).1))
+
+pub finish_ran : (i : List SegmentView) → Only (finishes i) (ran_of i)
+finish_ran i l h = ap₂ (λ b c. b && c) (and_parts (is_of i l) (same_kind l.kind Finished) h).0
+    (or_right (same_kind l.kind Started) _ (or_left (same_kind l.kind Finished) _ (and_parts (is_of i l) (same_kind l.kind Finished) h).1))
+
+started_any : (i : List SegmentView) → Only (starts i) (is_of i)
+started_any i l h = (and_parts (is_of i l) (same_kind l.kind Started) h).0
+
+any_wider : (p q : Label → Bool) → Only p q → (ls : List Label) → list_any p ls ≡ true → list_any q ls ≡ true
+any_wider p q only [] h = cc
+any_wider p q only (x ∷ xs) h = ⊎_elim
+    (λ t. or_left (q x) _ (only x t))
+    (λ f. or_right (q x) _ (any_wider p q only xs (sym (ap (λ b. b || list_any p xs) f) ∙ h)))
     (cases_Bool (p x))
+
+-- an event below i needs a start of i
+below_started : (ls : List Label) → ((p : List SegmentView) (s : SegmentView) → p ≢ [] → precedes (starts p) (is_of (p ++ s ∷ [])) ls ≡ true)
+    → (more : List SegmentView) (i : List SegmentView) (s : SegmentView) → i ≢ [] → list_any (is_of (i ++ s ∷ more)) ls ≡ true → list_any (starts i) ls ≡ true
+below_started ls first [] i s n h = preceded (starts i) (is_of (i ++ s ∷ [])) ls (first i s n) h
+below_started ls first (m ∷ more) i s n h =
+    let up = below_started ls first more (i ++ s ∷ []) m (snoc_some i s) (ap (λ j. list_any (is_of j) ls) (append_assoc i (s ∷ []) (m ∷ more)) ∙ h) in
+    preceded (starts i) (is_of (i ++ s ∷ [])) ls (first i s n) (any_wider (starts (i ++ s ∷ [])) (is_of (i ++ s ∷ [])) (started_any (i ++ s ∷ [])) ls up)
+
+pub skipped_from : (ls : List Label) → ((i : List SegmentView) → IsOnce (filter (ran_of i) ls)) → ((p : List SegmentView) (s : SegmentView) → p ≢ [] → precedes (starts p) (is_of (p ++ s ∷ [])) ls ≡ true)
+    → (i : List SegmentView) (s : SegmentView) (more : List SegmentView) → i ≢ [] → list_any (skips i) ls ≡ true → list_any (is_of (i ++ s ∷ more)) ls ≡ false
+skipped_from ls once first i s more n h = ⊎_elim
+    (λ t. let up = below_started ls first more i s n t in
+    let no : ⊥ = skipped_alone Started start_or_skip i (filter (ran_of i) ls) (once i) (sym (any_kept (ran_of i) (starts i) (start_ran i) ls) ∙ up) (sym (any_kept (ran_of i) (skips i) (skip_ran i) ls) ∙ h) in absurd no)
+    (λ f. f)
+    (cases_Bool (list_any (is_of (i ++ s ∷ more)) ls))
 
 -- ---- parents
 
@@ -71,33 +130,20 @@ child_is_below : (i : List SegmentView) (s : SegmentView) → i ≢ [] → 1 < l
 child_is_below [] s some = absurd (some refl)
 child_is_below (x ∷ i) s some = omega (arith, length-append i (s ∷ []))
 
-no_child_of_itself : (i : List SegmentView) (s : SegmentView) → i ≡ i ++ s ∷ [] → ⊥
-no_child_of_itself i s same =
-    let a : length i ≡ length (i ++ s ∷ []) = ap (λ (l : List SegmentView). length l) same in omega (arith, a, length-append i (s ∷ []))
-
 -- ---- the law
 
-module _ (r : Recorded) (is : IsRecord r) (different : AreDifferent r.table) (keeps : KeepsLifecycle r) where
+module _ (r : Recorded) (known : AreKnown r) (different : AreDifferent r.table) (keeps : KeepsLifecycle r) where
   abbrev label_of : Entry → Label
   label_of e = label (name r) e.event
 
-  -- the key of an event has its id from the event on
-  its : (p : ℕ) (e : Entry) → slice_get r.entries p ≡ Some e → HasId (with_entry (first_entries p r) e) e.event.key (name r e.event.key) × HasId r e.event.key (name r e.event.key)
-  its p e at = by (desc r e.event.key) refl
-    where
-      known : is_some (desc r e.event.key) ≡ true
-      known = subst (λ (x : Entry). is_some (desc r x.event.key) ≡ true) (get_or_from_slice_get r.entries p e e at) (is.known p e (slice_get_within r.entries p e at))
-
-      by : (o : Option Descriptor) → desc r e.event.key ≡ o → HasId (with_entry (first_entries p r) e) e.event.key (name r e.event.key) × HasId r e.event.key (name r e.event.key)
-      by None missing = absurd (true≢false (sym known ∙ ap is_some missing))
-      by (Some d) found =
-          let id_is : d.id ≡ name r e.event.key = sym (ap id_in found) in (
-            subst (HasId (with_entry (first_entries p r) e) e.event.key) id_is (its_id r p e d is at found),
-            record { descriptor = d; described = found; id_is = id_is },
-          )
-
   described : AreDescribed r
-  described p e at = (its p e at).1
+  described p e at =
+      let h = known p e at in
+      record {
+        descriptor = h.descriptor;
+        described = desc_first r (p + 1) e.event.key h.descriptor (ap (λ x. desc x e.event.key) (sym (first_more r p e at)) ∙ h.described);
+        id_is = h.id_is;
+      }
 
   once : (i : List SegmentView) → IsOnce (filter (ran_of i) (labels r))
   once i = ⊎_elim
@@ -126,7 +172,7 @@ module _ (r : Recorded) (is : IsRecord r) (different : AreDifferent r.table) (ke
 
     parent : RunningParent
     parent =
-        let b = keeps.below p e at (i ++ s ∷ []) (subst (HasId (with_entry (first_entries p r) e) e.event.key) child_name (its p e at).0) (child_is_below i s some) in
+        let b = keeps.below p e at (i ++ s ∷ []) (subst (HasId (with_entry (first_entries p r) e) e.event.key) child_name (known p e at)) (child_is_below i s some) in
         let has = b.1 in
         record {
           key = b.0;
@@ -209,7 +255,7 @@ module _ (r : Recorded) (is : IsRecord r) (different : AreDifferent r.table) (ke
       keeps.ids f.position g.entry g.stands (let h : KnowsId past g.entry = record {
         dynamic = both.1;
         id = i;
-        registered = subst (HasId (with_entry past g.entry) g.entry.event.key) ((same_decides (name r g.entry.event.key) i).0 both.0) (its f.position g.entry g.stands).0;
+        registered = subst (HasId (with_entry past g.entry) g.entry.event.key) ((same_decides (name r g.entry.event.key) i).0 both.0) (known f.position g.entry g.stands);
         earlier = key;
         known = record { descriptor = d; described = static_desc past key d static; id_is = ap (λ (x : Descriptor). x.id) same ∙ own.id_is };
       } in h)
@@ -218,7 +264,7 @@ module _ (r : Recorded) (is : IsRecord r) (different : AreDifferent r.table) (ke
   registered_before i any p e at h =
       let both = and_parts (is_of i (label_of e)) (is_ran e.event.kind) h in
       let own : name r e.event.key ≡ i = (same_decides (name r e.event.key) i).0 both.0 in
-      let after = subst (HasId (with_entry (first_entries p r) e) e.event.key) own (its p e at).0 in
+      let after = subst (HasId (with_entry (first_entries p r) e) e.event.key) own (known p e at) in
       ⊎_elim {C = Earlier (registers i) (labels r) p}
       (λ (known : HasId (first_entries p r) e.event.key i). by own known (slice_get r.table e.event.key) refl)
       (λ (new : (of_kind Dynamic e ≡ true) × (e.event.key ≡ e.event.key)). absurd (no_registration e.event.kind both.1 new.0))
@@ -239,7 +285,7 @@ module _ (r : Recorded) (is : IsRecord r) (different : AreDifferent r.table) (ke
       let x = labelled r p l at in
       registered_before i any p x.entry x.stands (ap (ran_of i) x.label_is ∙ h))
 
-  listens : Listens (labels r)
+  pub listens : Listens (labels r)
   listens = record {
     once = once;
     start_first = start_first;
@@ -248,5 +294,16 @@ module _ (r : Recorded) (is : IsRecord r) (different : AreDifferent r.table) (ke
     registered_first = registered_first;
   }
 
+-- the key of each event of a record has its id from the event on
+known_in : (r : Recorded) → IsRecord r → AreKnown r
+known_in r is p e at = by (desc r e.event.key) refl
+  where
+    some : is_some (desc r e.event.key) ≡ true
+    some = subst (λ (x : Entry). is_some (desc r x.event.key) ≡ true) (get_or_from_slice_get r.entries p e e at) (is.known p e (slice_get_within r.entries p e at))
+
+    by : (o : Option Descriptor) → desc r e.event.key ≡ o → HasId (with_entry (first_entries p r) e) e.event.key (name r e.event.key)
+    by None missing = absurd (true≢false (sym some ∙ ap is_some missing))
+    by (Some d) found = subst (HasId (with_entry (first_entries p r) e) e.event.key) (sym (ap id_in found)) (its_id r p e d is at found)
+
 pub lifecycle_is_relied_on : LifecycleIsReliedOn
-lifecycle_is_relied_on r is different keeps = listens r is different keeps
+lifecycle_is_relied_on r is different keeps = listens r (known_in r is) different keeps

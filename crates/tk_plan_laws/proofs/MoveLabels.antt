@@ -1,16 +1,16 @@
 -- The labels that a plan's moves give.
-use Rattle.std.proofs.Common.{◌≡◌, ℕ, ◌+◌, ◌⊎◌, Bool, List, [], ◌∷◌, ◌++◌, map, filter, flat_map, slice_get, is_some, refl, sym, ap, ◌∙◌, subst, append_assoc, append-nil, if◌then◌else◌}
+use Rattle.std.proofs.Common.{◌≡◌, ℕ, ◌+◌, ◌⊎◌, Bool, List, [], ◌∷◌, ◌++◌, map, filter, flat_map, slice_get, refl, sym, ap, ◌∙◌, subst, append_assoc, append-nil, if◌then◌else◌}
 use Rattle.std.proofs.lemmas.List.{map-append}
 use Rattle.std.proofs.lemmas.List.Elements.{filter-append}
 use Rattle.tk_plan.specs.Cutting.{script_of}
 use Rattle.tk_plan.specs.Numbers.{in_order}
-use Rattle.tk_plan.specs.Script.{each_act, move, moves, moves_below, opening, registration, stamped}
+use Rattle.tk_plan.specs.Script.{each_act, move, moves, moves_below, registration, stamped}
 use Rattle.tk_plan.specs.StepEvents.{kind_of}
 use Rattle.tk_plan.specs.Trees.{Forest, Tree, flat, flats, forest, more, no_trees, tree}
 use Rattle.tk_plan.specs.declared.trees.nodes.Node.{Node}
 use Rattle.tk_plan.specs.declared.trees.nodes.NumberedNode.{NumberedNode}
 use Rattle.tk_plan.specs.declared.scripts.steps.Act.{Act}
-use Rattle.tk_plan.specs.declared.scripts.steps.Act.TheVariants.{File, Finish, Register, Report, Skip}
+use Rattle.tk_plan.specs.declared.scripts.steps.Act.TheVariants.{File, Report}
 use Rattle.tk_plan.specs.declared.scripts.steps.Step.{Step}
 use Rattle.tk_ids.specs.IdText.{SegmentView}
 use Rattle.tk_report_text.specs.Labels.{Label}
@@ -62,13 +62,6 @@ pub shown_more : (all : List NumberedNode) (q : List SegmentView → Bool) (pare
     → shown all q (moves_below parent (more t f)) ≡ shown all q (moves_in parent t) ++ shown all q (moves_below parent f)
 shown_more all q parent t f =
     ap (shown all q) (sym (append_assoc (registration parent t) (moves t) (moves_below parent f))) ∙ shown-append all q (moves_in parent t) (moves_below parent f)
-
--- what a node does of its own, without what stands below it
-abbrev pub own_run : Node → ℕ → List Move
-own_run n k = if is_some n.skip then move k Skip ∷ [] else opening n k ++ move k Finish ∷ []
-
-abbrev pub own_moves : ℕ → Node → ℕ → List Move
-own_moves parent n k = (if n.is_static then [] else move k (Register parent) ∷ []) ++ own_run n k
 
 -- ---- what a node publishes
 

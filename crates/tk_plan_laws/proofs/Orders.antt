@@ -1,8 +1,8 @@
 -- Orders of elements in a list, and in its part that matters.
-use Rattle.std.proofs.Common.{◌≡◌, Bool, true, false, not, cond, ◌&&◌, ◌||◌, List, [], ◌∷◌, ◌++◌, filter, refl, sym, ap, ap₂, ◌∙◌, ⊎_elim}
+use Rattle.std.proofs.Common.{◌≡◌, Bool, true, false, not, cond, ◌&&◌, ◌||◌, List, [], ◌∷◌, filter, refl, sym, ap, ap₂, ◌∙◌, ⊎_elim}
 use Rattle.std.specs.List.{list_any}
-use Rattle.std.proofs.lemmas.Bool.{cases_Bool, or_right, and_parts}
-use Rattle.tk_plan_laws.specs.Listening.{is_followed, precedes}
+use Rattle.std.proofs.lemmas.Bool.{cases_Bool, or_left, true≢false}
+use Rattle.tk_plan_laws.specs.Listening.{precedes}
 
 -- a test that passes only where another does
 abbrev pub Only : {A : Type 0} → (A → Bool) → (A → Bool) → Type 0
@@ -30,84 +30,42 @@ module _ {A : Type 0} (q : A → Bool) where
       (λ f. rw f (ap (λ b. cond b (x ∷ filter p xs) (filter p xs)) (out_of p only x f) ∙ h))
       (cases_Bool (q x))
 
-  pub precedes_kept : (e l : A → Bool) → Only e q → Only l q → (xs : List A) → precedes e l xs ≡ precedes e l (filter q xs)
-  precedes_kept e l oe ol [] = refl
-  precedes_kept e l oe ol (x ∷ xs) =
-      let h = precedes_kept e l oe ol xs in
-      ⊎_elim
-      (λ t. rw t (ap (λ b. not (l x) && (e x || b)) h))
-      (λ f. rw f (ap₂ (λ b c. not b && (c || precedes e l xs)) (out_of l ol x f) (out_of e oe x f) ∙ h))
+-- none of the elements passes
+pub none_passes : {A : Type 0} (p : A → Bool) (xs : List A) → list_any p xs ≡ false → filter p xs ≡ []
+none_passes p [] h = refl
+none_passes p (x ∷ xs) h = ⊎_elim
+    (λ t. absurd (true≢false (sym (or_left (p x) (list_any p xs) t) ∙ h)))
+    (λ f. rw f (none_passes p xs (sym (ap (λ b. b || list_any p xs) f) ∙ h)))
+    (cases_Bool (p x))
+
+-- where one comes that has to be preceded, one has come that precedes
+pub preceded : {A : Type 0} (e l : A → Bool) (xs : List A) → precedes e l xs ≡ true → list_any l xs ≡ true → list_any e xs ≡ true
+preceded e l [] h a = a
+preceded e l (x ∷ xs) h a =
+    let more = preceded e l xs in
+    elim (l x) as (λ b. (not b && (e x || precedes e l xs)) ≡ true → (b || list_any l xs) ≡ true → (e x || list_any e xs) ≡ true) [
+      | true ↦ (λ k m. cc)
+      | false ↦ elim (e x) as (λ c. (c || precedes e l xs) ≡ true → list_any l xs ≡ true → (c || list_any e xs) ≡ true) [ true ↦ (λ k m. refl) | false ↦ (λ k m. more k m) ]
+    ] h a
+
+pub or-false : (b : Bool) → (b || false) ≡ b
+or-false true = refl
+or-false false = refl
+
+module _ {A : Type 0} (s f c : A → Bool) where
+  -- each element that passes c comes after one that passes s, and after none that passes f; such ones have come before, where the first argument is true, or the second
+  abbrev pub encloses : Bool → Bool → List A → Bool
+  encloses begun ended [] = true
+  encloses begun ended (x ∷ xs) = (not (c x) || (begun && not ended)) && encloses (begun || s x) (ended || f x) xs
+
+  outside : (a b : Bool) (x : A) (xs : List A) → s x ≡ false → f x ≡ false → c x ≡ false → encloses a b (x ∷ xs) ≡ encloses a b xs
+  outside a b x xs h g k =
+      ap (λ d. (not d || (a && not b)) && encloses (a || s x) (b || f x) xs) k
+      ∙ (ap₂ (λ d e. encloses (a || d) (b || e) xs) h g ∙ ap₂ (λ d e. encloses d e xs) (or-false a) (or-false b))
+
+  pub encloses_kept : (q : A → Bool) → Only s q → Only f q → Only c q → (a b : Bool) (xs : List A) → encloses a b xs ≡ encloses a b (filter q xs)
+  encloses_kept q os of oc a b [] = refl
+  encloses_kept q os of oc a b (x ∷ xs) = ⊎_elim
+      (λ t. rw t (ap (λ r. (not (c x) || (a && not b)) && r) (encloses_kept q os of oc (a || s x) (b || f x) xs)))
+      (λ n. rw n (outside a b x xs (out_of q s os x n) (out_of q f of x n) (out_of q c oc x n) ∙ encloses_kept q os of oc a b xs))
       (cases_Bool (q x))
-
-  pub followed_kept : (e l : A → Bool) → Only e q → Only l q → (xs : List A) → is_followed e l xs ≡ is_followed e l (filter q xs)
-  followed_kept e l oe ol [] = refl
-  followed_kept e l oe ol (x ∷ xs) =
-      let h = followed_kept e l oe ol xs in
-      ⊎_elim
-      (λ t. rw t (ap₂ (λ b c. (not (e x) || b) && c) (any_kept l ol xs) h))
-      (λ f. rw f (ap (λ b. (not b || list_any l xs) && is_followed e l xs) (out_of e oe x f) ∙ h))
-      (cases_Bool (q x))
-
-module _ {A : Type 0} (e l : A → Bool) where
-  and_true : {b c : Bool} → b ≡ true → c ≡ true → (b && c) ≡ true
-  and_true h g = ap₂ (λ b c. b && c) h g
-
-  or_more : (b c d : Bool) → (b || c) ≡ true → (c ≡ true → d ≡ true) → (b || d) ≡ true
-  or_more true c d h g = refl
-  or_more false c d h g = g h
-
-  any_more : (xs ys : List A) → list_any l xs ≡ true → list_any l (xs ++ ys) ≡ true
-  any_more [] ys h = cc
-  any_more (x ∷ xs) ys h = let more = any_more xs ys in elim (l x) as (λ b. (b || list_any l xs) ≡ true → (b || list_any l (xs ++ ys)) ≡ true) [ true ↦ (λ k. refl) | false ↦ (λ k. more k) ] h
-
-  pub precedes-append : (xs ys : List A) → precedes e l xs ≡ true → precedes e l ys ≡ true → precedes e l (xs ++ ys) ≡ true
-  precedes-append [] ys h g = g
-  precedes-append (x ∷ xs) ys h g =
-      let more = precedes-append xs ys in
-      elim (l x) as (λ b. (not b && (e x || precedes e l xs)) ≡ true → (not b && (e x || precedes e l (xs ++ ys))) ≡ true) [
-        | true ↦ (λ k. k)
-        | false ↦ elim (e x) as (λ c. (c || precedes e l xs) ≡ true → (c || precedes e l (xs ++ ys)) ≡ true) [ true ↦ (λ k. refl) | false ↦ (λ k. more k g) ]
-      ] h
-
-  pub precedes_none : (xs : List A) → list_any l xs ≡ false → precedes e l xs ≡ true
-  precedes_none [] h = refl
-  precedes_none (x ∷ xs) h =
-      let more = precedes_none xs in
-      elim (l x) as (λ b. (b || list_any l xs) ≡ false → (not b && (e x || precedes e l xs)) ≡ true)
-      [ true ↦ (λ k. cc) | false ↦ (λ k. ap (λ c. e x || c) (more k) ∙ or_right (e x) true refl) ] h
-
-  pub precedes_here : (x : A) (xs : List A) → l x ≡ false → e x ≡ true → precedes e l (x ∷ xs) ≡ true
-  precedes_here x xs n y = ap₂ (λ b c. not b && (c || precedes e l xs)) n y
-
-  -- where one comes that has to be preceded, one has come that precedes
-  pub preceded : (xs : List A) → precedes e l xs ≡ true → list_any l xs ≡ true → list_any e xs ≡ true
-  preceded [] h a = a
-  preceded (x ∷ xs) h a =
-      let more = preceded xs in
-      elim (l x) as (λ b. (not b && (e x || precedes e l xs)) ≡ true → (b || list_any l xs) ≡ true → (e x || list_any e xs) ≡ true) [
-        | true ↦ (λ k m. cc)
-        | false ↦ elim (e x) as (λ c. (c || precedes e l xs) ≡ true → list_any l xs ≡ true → (c || list_any e xs) ≡ true) [ true ↦ (λ k m. refl) | false ↦ (λ k m. more k m) ]
-      ] h a
-
-  -- e comes, and l after it
-  pub followed-append : (xs ys : List A) → is_followed e l xs ≡ true → is_followed e l ys ≡ true → is_followed e l (xs ++ ys) ≡ true
-  followed-append [] ys h g = g
-  followed-append (x ∷ xs) ys h g =
-      let k = and_parts (not (e x) || list_any l xs) (is_followed e l xs) h in
-      and_true (or_more (not (e x)) (list_any l xs) (list_any l (xs ++ ys)) k.0 (any_more xs ys)) (followed-append xs ys k.1 g)
-
-  pub followed_none : (xs : List A) → list_any e xs ≡ false → is_followed e l xs ≡ true
-  followed_none [] h = refl
-  followed_none (x ∷ xs) h =
-      let more = followed_none xs in
-      elim (e x) as (λ b. (b || list_any e xs) ≡ false → ((not b || list_any l xs) && is_followed e l xs) ≡ true)
-      [ true ↦ (λ k. cc) | false ↦ (λ k. more k) ] h
-
-  any_end : (xs : List A) (y : A) → l y ≡ true → list_any l (xs ++ y ∷ []) ≡ true
-  any_end [] y h = ap (λ b. b || false) h
-  any_end (x ∷ xs) y h = ap (λ b. l x || b) (any_end xs y h) ∙ or_right (l x) true refl
-
-  pub followed_end : (xs : List A) (y : A) → l y ≡ true → e y ≡ false → is_followed e l (xs ++ y ∷ []) ≡ true
-  followed_end [] y h n = ap (λ b. (not b || false) && true) n
-  followed_end (x ∷ xs) y h n =
-      and_true (ap (λ b. not (e x) || b) (any_end xs y h) ∙ or_right (not (e x)) true refl) (followed_end xs y h n)

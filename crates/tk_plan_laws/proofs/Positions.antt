@@ -1,10 +1,14 @@
 -- Elements of lists at their positions.
-use Rattle.std.proofs.Common.{◌≡◌, ◌<◌, ◌≤◌, ℕ, zero, suc, ◌+◌, Bool, true, false, not, ◌||◌, List, [], ◌∷◌, map, take, Some, option_map, slice_get, refl, sym, ap, ◌∙◌, arith, if◌then◌else◌, ⊎_elim}
+use Rattle.std.proofs.Common.{◌≡◌, ◌<◌, ℕ, zero, suc, Bool, true, false, not, cond, ◌&&◌, ◌||◌, List, [], ◌∷◌, map, filter, take, drop, Some, option_map, slice_get, refl, sym, ap, ap₂, ◌∙◌, arith, ⊎_elim}
 use Rattle.std.specs.List.{list_any}
 use Rattle.std.proofs.lemmas.Bool.{true≢false, and_from, and_parts, cases_Bool, or_cases, or_left, or_right}
 use Rattle.std.proofs.lemmas.Option.{same_Some, none-some, slice_get-map}
-use Rattle.tk_plan_laws.proofs.Lists.{count}
+use Rattle.tk_plan_laws.proofs.Orders.{Only, any_kept, encloses, or-false}
 use Rattle.tk_plan_laws.specs.Listening.{is_followed, precedes}
+
+or_joins : (a b c : Bool) → (a || (b || c)) ≡ ((a || b) || c)
+or_joins true b c = refl
+or_joins false b c = refl
 
 -- an element that passes the test
 pub record Found {A : Type 0} (p : A → Bool) (xs : List A) : Type 0 where
@@ -42,33 +46,6 @@ pub record Earlier {A : Type 0} (p : A → Bool) (xs : List A) (i : ℕ) : Type 
 pub record Later {A : Type 0} (p : A → Bool) (xs : List A) (i : ℕ) : Type 0 where
   pub found : Found p xs
   pub after : i < found.position
-
-pub earlier : {A : Type 0} (p q : A → Bool) (xs : List A) (i : ℕ) (x : A) → precedes p q xs ≡ true → slice_get xs i ≡ Some x → q x ≡ true → Earlier p xs i
-earlier p q [] i x h at is = absurd (none-some x at)
-earlier p q (y ∷ ys) zero x h at is =
-    let here : q y ≡ true = ap q (same_Some y x at) ∙ is in
-    absurd (true≢false (sym (and_parts (not (q y)) (p y || precedes p q ys) h).0 ∙ ap not here))
-earlier p q (y ∷ ys) (suc i) x h at is = ⊎_elim {C = Earlier p (y ∷ ys) (suc i)}
-    (λ (here : p y ≡ true). record { found = first p y ys here; before = omega arith })
-    (λ (rest : precedes p q ys ≡ true).
-    let e = earlier p q ys i x rest at is in let lt = e.before in
-    record { found = next p y ys e.found; before = omega (arith, lt) })
-    (or_cases (p y) (precedes p q ys) (and_parts (not (q y)) (p y || precedes p q ys) h).1)
-
-follows : (b c : Bool) → (not b || c) ≡ true → b ≡ true → c ≡ true
-follows true c h is = h
-follows false c h is = absurd (true≢false (sym is))
-
-pub later : {A : Type 0} (p q : A → Bool) (xs : List A) (i : ℕ) (x : A) → is_followed p q xs ≡ true → slice_get xs i ≡ Some x → p x ≡ true → Later q xs i
-later p q [] i x h at is = absurd (none-some x at)
-later p q (y ∷ ys) zero x h at is =
-    let both = and_parts (not (p y) || list_any q ys) (is_followed p q ys) h in
-    let f = any_at q ys (follows (p y) (list_any q ys) both.0 (ap p (same_Some y x at) ∙ is)) in
-    record { found = next q y ys f; after = omega arith }
-later p q (y ∷ ys) (suc i) x h at is =
-    let both = and_parts (not (p y) || list_any q ys) (is_followed p q ys) h in
-    let l = later p q ys i x both.1 at is in let lt = l.after in
-    record { found = next q y ys l.found; after = omega (arith, lt) }
 
 -- each element that passes q has one before it that passes p
 pub precedes_from : {A : Type 0} (p q : A → Bool) (xs : List A) → ((i : ℕ) (x : A) → slice_get xs i ≡ Some x → q x ≡ true → Earlier p xs i) → precedes p q xs ≡ true
@@ -111,25 +88,34 @@ followed_from {A} p q (y ∷ ys) h =
         by zero x at is lt = absurd (omega (arith, lt))
         by (suc j) x at is lt = any_from q ys j x at is
 
--- ---- how many pass
+-- ---- enclosed elements, and what comes after a first one
 
-more : (b : Bool) (n m : ℕ) → m ≤ n → m ≤ (if b then 1 + n else n)
-more true n m h = omega (arith, h)
-more false n m h = h
+-- before an element that passes c, one has passed s and none f
+pub enclosed_at : {A : Type 0} (s f c : A → Bool) (a b : Bool) (xs : List A) (m : ℕ) (x : A) → encloses s f c a b xs ≡ true → slice_get xs m ≡ Some x → c x ≡ true
+    → ((a || list_any s (take m xs)) && not (b || list_any f (take m xs))) ≡ true
+enclosed_at s f c a b [] m x h at is = absurd (none-some x at)
+enclosed_at s f c a b (y ∷ ys) zero x h at is =
+    let here = (and_parts (not (c y) || (a && not b)) (encloses s f c (a || s y) (b || f y) ys) h).0 in
+    ap₂ (λ d e. d && not e) (or-false a) (or-false b) ∙ (sym (ap (λ d. not d || (a && not b)) (ap c (same_Some y x at) ∙ is)) ∙ here)
+enclosed_at s f c a b (y ∷ ys) (suc m) x h at is =
+    ap₂ (λ d e. d && not e) (or_joins a (s y) (list_any s (take m ys))) (or_joins b (f y) (list_any f (take m ys)))
+    ∙ enclosed_at s f c (a || s y) (b || f y) ys m x (and_parts (not (c y) || (a && not b)) (encloses s f c (a || s y) (b || f y) ys) h).1 at is
 
-pub counted_once : {A : Type 0} (p : A → Bool) (xs : List A) (i : ℕ) (x : A) → slice_get xs i ≡ Some x → p x ≡ true → 1 ≤ count p xs
-counted_once p [] i x at h = absurd (none-some x at)
-counted_once p (y ∷ ys) zero x at h = let here : p y ≡ true = ap p (same_Some y x at) ∙ h in rw here (omega arith)
-counted_once p (y ∷ ys) (suc i) x at h = more (p y) (count p ys) 1 (counted_once p ys i x at h)
+pub any_dropped : {A : Type 0} (g : A → Bool) (xs : List A) → list_any g (drop 1 xs) ≡ true → list_any g xs ≡ true
+any_dropped g [] h = h
+any_dropped g (x ∷ xs) h = or_right (g x) (list_any g xs) h
 
-pub counted_twice : {A : Type 0} (p : A → Bool) (xs : List A) (i j : ℕ) (x y : A) → i < j → slice_get xs i ≡ Some x → slice_get xs j ≡ Some y → p x ≡ true → p y ≡ true → 2 ≤ count p xs
-counted_twice p [] i j x y lt a b h g = absurd (none-some x a)
-counted_twice p (z ∷ zs) i zero x y lt a b h g = let no : ⊥ = omega (arith, lt) in absurd no
-counted_twice p (z ∷ zs) zero (suc j) x y lt a b h g =
-    let here : p z ≡ true = ap p (same_Some z x a) ∙ h in
-    let rest = counted_once p zs j y b g in
-    rw here (omega (arith, rest))
-counted_twice p (z ∷ zs) (suc i) (suc j) x y lt a b h g = more (p z) (count p zs) 2 (counted_twice p zs i j x y (omega (arith, lt)) a b h g)
+-- what passes g, after an element that passes q, isn't the first of those that pass q
+pub past_first : {A : Type 0} (q g : A → Bool) → Only g q → (xs : List A) (i j : ℕ) (x y : A) → i < j → slice_get xs i ≡ Some x → slice_get xs j ≡ Some y
+    → q x ≡ true → g y ≡ true → list_any g (drop 1 (filter q xs)) ≡ true
+past_first q g only [] i j x y lt a b is then = absurd (none-some x a)
+past_first q g only (z ∷ zs) i zero x y lt a b is then = let no : ⊥ = omega (arith, lt) in absurd no
+past_first q g only (z ∷ zs) zero (suc j) x y lt a b is then =
+    let here : q z ≡ true = ap q (same_Some z x a) ∙ is in
+    rw here (sym (any_kept q g only zs) ∙ any_from g zs j y b then)
+past_first q g only (z ∷ zs) (suc i) (suc j) x y lt a b is then =
+    let more = past_first q g only zs i j x y (omega (arith, lt)) a b is then in
+    elim (q z) as (λ t. list_any g (drop 1 (cond t (z ∷ filter q zs) (filter q zs))) ≡ true) [ true ↦ any_dropped g (filter q zs) more | false ↦ more ]
 
 -- ---- first elements, and images
 

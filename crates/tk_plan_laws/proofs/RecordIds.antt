@@ -14,17 +14,20 @@ use Rattle.tk_events.specs.declared.events.Entry.{Entry}
 use Rattle.tk_events.specs.Event.{kind_code, kind_of_code}
 use Rattle.tk_events.proofs.KindLemmas.{kind_again}
 use Rattle.tk_record.specs.Recorded.{Recorded}
-use Rattle.tk_record.specs.Entries.{of_kind, described, registered, desc_in, desc}
-use Rattle.tk_query_lifecycle.specs.Lifecycle.{HasId}
+use Rattle.tk_record.specs.Entries.{of_kind, described, registered, desc_in, desc, with_entry}
+use Rattle.tk_query_lifecycle.specs.Lifecycle.{HasId, first_entries}
 use Rattle.tk_query_lifecycle.specs.KeepsLifecycle.{is_step, steps_of}
 use Rattle.tk_query_lifecycle.proofs.KeepLemmas.{IdsAreNew, unique_ids}
 use Rattle.tk_report_text.specs.Labels.{Label, events, id_in, label, labels, name, same_id, same_kind}
 use Rattle.tk_report_text.proofs.Ids.{same_decides}
-use Rattle.tk_plan_laws.specs.Listening.{registers}
-use Rattle.tk_plan_laws.proofs.ListenerSteps.{ran_of}
+use Rattle.tk_plan_laws.specs.Listening.{is_of, is_ran, registers}
 use Rattle.tk_plan_laws.proofs.Positions.{map_get, of_map}
 
 -- ---- entries and their labels
+
+-- a start, a finish or a skip of an id
+abbrev pub ran_of : List SegmentView → Label → Bool
+ran_of i l = is_of i l && is_ran l.kind
 
 pub label_at : (r : Recorded) (p : ℕ) (e : Entry) → slice_get r.entries p ≡ Some e → slice_get (labels r) p ≡ Some (label (name r) e.event)
 label_at r p e at = map_get (label (name r)) (events r.entries) p e.event (map_get (λ (x : Entry). x.event) r.entries p e at)
@@ -114,6 +117,10 @@ named r key id some is = by (desc r key) refl
 -- the key of each event has a descriptor
 abbrev pub AreDescribed : Recorded → Type 0
 AreDescribed r = (p : ℕ) (e : Entry) → slice_get r.entries p ≡ Some e → HasId r e.event.key (name r e.event.key)
+
+-- and has it from the event on
+abbrev pub AreKnown : Recorded → Type 0
+AreKnown r = (p : ℕ) (e : Entry) → slice_get r.entries p ≡ Some e → HasId (with_entry (first_entries p r) e) e.event.key (name r e.event.key)
 
 module _ (r : Recorded) (different : AreDifferent r.table) (new : IdsAreNew r) where
   pub one_key : (id : List SegmentView) (j k : ℕ) → HasId r j id → HasId r k id → j ≡ k

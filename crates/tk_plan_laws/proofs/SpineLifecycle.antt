@@ -39,7 +39,7 @@ use Rattle.tk_plan_laws.specs.Spines.{IsOnSpine, IsSpineEvent}
 use Rattle.tk_plan_laws.proofs.SpineEvents.{spine_finishes}
 use Rattle.tk_plan_laws.proofs.PlanTrees.{plan_tree}
 use Rattle.tk_plan_laws.proofs.RecordIds.{step_or_none}
-use Rattle.tk_plan_laws.proofs.RecordLifecycle.{run_keeps}
+use Rattle.tk_plan_laws.proofs.RunLifecycle.{run_keeps}
 use Rattle.tk_plan_laws.proofs.Positions.{any_at, in_taken, of_map}
 
 -- ---- elements of two lists, one after the other

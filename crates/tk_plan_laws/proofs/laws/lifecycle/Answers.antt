@@ -3,7 +3,7 @@ use Rattle.tk_query_lifecycle.specs.Lifecycle.{IsLifecycle}
 use Rattle.tk_query_lifecycle.specs.declared.lifecycle_rules.Lifecycle.TheVariants.{Kept}
 use Rattle.tk_plan_laws.proofs.DueKeys.{due_keys_run}
 use Rattle.tk_plan_laws.proofs.PlanTrees.{node_of, plan_tree}
-use Rattle.tk_plan_laws.proofs.RecordLifecycle.{run_ids_differ, run_keeps}
+use Rattle.tk_plan_laws.proofs.RunLifecycle.{run_ids_differ, run_keeps}
 use Rattle.tk_plan_laws.specs.Laws.{DueKeysRun, RunsKeepLifecycle}
 use Rattle.tk_plan_laws.proofs.laws.lifecycle.Goals as goal
 
