@@ -40,8 +40,8 @@ fn with_id(alloc: Global, root: &PlanNode<'_>, fault: NodeFault) -> Result<Build
 /// # Errors
 /// The first fault of the nodes in preorder, with the id of the node that has it; else
 /// `TooManyEvents`. `Field` has the place in that JSON, where a dynamic node has what only a static
-/// one may have, a success has a message, or the path of a file is empty. Where a request for memory
-/// is refused, the fault is `Memory`.
+/// one may have, or the path of a file is empty. Where a request for memory is refused, the fault is
+/// `Memory`.
 pub fn build_plan(alloc: Global, root: &PlanNode<'_>) -> Result<Plan, BuildFault>
     ensures plan { Answered (PlanOf (plan_data root.now)) (without_node result) }
     ensures node { IfErr result (λ e. HasNode (faulty_id root.now) e.fault e.node) }

@@ -1,11 +1,10 @@
-use Rattle.std.proofs.Common.{◌≡◌, ◌≤◌, ◌^◌, [], length, Some, None, Err, option_map, refl, sym, ap, ◌∙◌, subst}
+use Rattle.std.proofs.Common.{◌≡◌, ◌≤◌, ◌^◌, [], length, None, Err, option_map, refl, sym, ap, ◌∙◌, subst}
 use Rattle.std.proofs.lemmas.Result.{err_from_is_err_and}
 use Rattle.serde_json.specs.View.{view}
 use Rattle.tk_plan.specs.Trees.{forest}
 use Rattle.tk_plan.specs.Script.{moves_below}
 use Rattle.std.specs.Option.{option_and_then}
 use Rattle.tk_plan_json.proofs.Verdicts.{verdict-located}
-use Rattle.tk_plan_json.specs.Verdicts.{located}
 use Rattle.tk_plan_reading.specs.FaultyNodes.{faulty_node}
 use Rattle.tk_plan_reading.specs.PlanOf.{PlanOf, ok_unless, takes_files_in}
 use Rattle.tk_plan_json.specs.NodeInputs.{root_at, node_inputs, grown}
