@@ -14,7 +14,7 @@ use Rattle.tk_query_conditions.specs.Characters.{percent}
 use Rattle.tk_query_conditions.specs.steps.Reading.{OpenGroup, OpenNot, OpenAll, OpenAny, Opener}
 use Rattle.tk_query_conditions.specs.steps.Reading.{OfText, OfKinds, OfSegment, OfPairs, OfAll}
 use Rattle.tk_query_conditions.specs.steps.Reading.{OfAny, OfNot, State, Word, InText, InKind}
-use Rattle.tk_query_conditions.specs.steps.Reading.{InTag, InValue, InPairs, After}
+use Rattle.tk_query_conditions.specs.steps.Reading.{InTag, InValue, InPairs, After, digit_two}
 use Rattle.tk_query_conditions.specs.declared.words.TextAtom as text_atom
 use Rattle.tk_query_conditions.specs.declared.words.TextAtom.TheVariants as text_atoms
 use Rattle.tk_query_conditions.specs.declared.words.Opener as opener
@@ -22,26 +22,6 @@ use Rattle.tk_query_conditions.specs.declared.words.Opener.TheVariants as opener
 use Rattle.tk_query_conditions.specs.declared.open_groups.OpenGroup as group
 use Rattle.tk_query_conditions.specs.declared.open_groups.OpenGroup.TheVariants as groups
 use Rattle.tk_query_conditions.specs.declared.readers.Position.TheVariants as positions
-
--- `2`, with which the two digits of each escape begin
-abbrev pub digit_two : ℕ
-digit_two = 50
-
--- `5`, the last digit of `%25`
-abbrev pub digit_five : ℕ
-digit_five = 53
-
--- `8`, the last digit of `%28`
-abbrev pub digit_eight : ℕ
-digit_eight = 56
-
--- `9`, the last digit of `%29`
-abbrev pub digit_nine : ℕ
-digit_nine = 57
-
--- `C`, the last digit of `%2C`
-abbrev pub digit_c : ℕ
-digit_c = 67
 
 -- members, after others
 abbrev pub conds_from : Conds → List Condition → Conds

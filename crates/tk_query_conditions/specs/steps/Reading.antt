@@ -5,8 +5,6 @@ use Rattle.std.specs.Prelude.{option_and_then, option_map, ◌==◌, ◌||◌, i
 use Rattle.std.specs.Prelude.{codes, map}
 use Rattle.std.specs.List.{list_any}
 use Rattle.tk_query_conditions.specs.Characters.{percent, opening_bracket, closing_bracket, comma}
-use Rattle.tk_query_conditions.specs.steps.Reader.{digit_two, digit_five, digit_eight}
-use Rattle.tk_query_conditions.specs.steps.Reader.{digit_nine, digit_c}
 use Rattle.tk_query_conditions.specs.Cond.{Bare, Test, Container, Engine, Started, Succeeded}
 use Rattle.tk_query_conditions.specs.Cond.{Failed, Aborted, TextAtom, Id, Name, Skipped, FailedWith}
 use Rattle.tk_query_conditions.specs.Cond.{AbortedWith, Message, File, Pairs, NoPairs, MorePairs}
@@ -18,6 +16,26 @@ use Rattle.tk_query_conditions.specs.declared.partial_texts.Escape.TheVariants.{
 use Rattle.tk_events.specs.declared.kinds.Kind.{Kind}
 use Rattle.tk_events.specs.declared.kinds.Kind.TheVariants as event
 use Rattle.tk_query_conditions.specs.Reading.{begins_with}
+
+-- `2`, with which the two digits of each escape begin
+abbrev pub digit_two : ℕ
+digit_two = 50
+
+-- `5`, the last digit of `%25`
+abbrev pub digit_five : ℕ
+digit_five = 53
+
+-- `8`, the last digit of `%28`
+abbrev pub digit_eight : ℕ
+digit_eight = 56
+
+-- `9`, the last digit of `%29`
+abbrev pub digit_nine : ℕ
+digit_nine = 57
+
+-- `C`, the last digit of `%2C`
+abbrev pub digit_c : ℕ
+digit_c = 67
 
 -- an open bracket of `all(`, `any(` or `not(`, with the members that are read
 pub data OpenGroup : Type 0 where
