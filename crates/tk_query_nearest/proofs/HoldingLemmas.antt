@@ -5,6 +5,7 @@ use Rattle.std.specs.List.{list_all, list_any}
 use Rattle.std.proofs.lemmas.Bool.{and_parts, or_cases, or_left, or_right, true≢false}
 use Rattle.std.proofs.lemmas.Slice.Eq.{bytes_eq-Decides}
 use Rattle.tk_ids.specs.declared.descriptors.Descriptor.{Descriptor}
+use Rattle.tk_events.specs.declared.outcomes.Outcome.TheVariants as outcomes
 use Rattle.tk_events.specs.declared.kinds.Kind.{Kind}
 use Rattle.tk_events.specs.declared.kinds.Kind.TheVariants as kind
 use Rattle.tk_events.specs.declared.statuses.Status.{Status}
@@ -41,8 +42,11 @@ no e = absurd (true≢false (sym e))
 message_within : (text : List ℕ) (p : Payload) → has_message text p ≡ true → message_contains text p ≡ true
 message_within text payload.Nothing e = no e
 message_within text (payload.Reason given) e = no e
-message_within text (payload.Outcome s None) e = no e
-message_within text (payload.Outcome s (Some given)) e = same_contains given text e
+message_within text (payload.Outcome outcomes.Successful) e = no e
+message_within text (payload.Outcome (outcomes.Aborted None)) e = no e
+message_within text (payload.Outcome (outcomes.Aborted (Some given))) e = same_contains given text e
+message_within text (payload.Outcome (outcomes.Failed None)) e = no e
+message_within text (payload.Outcome (outcomes.Failed (Some given))) e = same_contains given text e
 message_within text (payload.Report pairs) e = no e
 message_within text (payload.Described d) e = no e
 message_within text (payload.Path given) e = no e
@@ -50,7 +54,7 @@ message_within text (payload.Path given) e = no e
 reason_within : (text : List ℕ) (p : Payload) → has_reason text p ≡ true → reason_contains text p ≡ true
 reason_within text payload.Nothing e = no e
 reason_within text (payload.Reason given) e = same_contains given text e
-reason_within text (payload.Outcome s m) e = no e
+reason_within text (payload.Outcome outcome) e = no e
 reason_within text (payload.Report pairs) e = no e
 reason_within text (payload.Described d) e = no e
 reason_within text (payload.Path given) e = no e
@@ -58,7 +62,7 @@ reason_within text (payload.Path given) e = no e
 path_within : (text : List ℕ) (p : Payload) → has_path text p ≡ true → path_contains text p ≡ true
 path_within text payload.Nothing e = no e
 path_within text (payload.Reason given) e = no e
-path_within text (payload.Outcome s m) e = no e
+path_within text (payload.Outcome outcome) e = no e
 path_within text (payload.Report pairs) e = no e
 path_within text (payload.Described d) e = no e
 path_within text (payload.Path given) e = same_contains given text e
@@ -100,7 +104,7 @@ has_keys : (named : List (List ℕ × List ℕ)) (p : Payload) → reports named
     → list_all (λ (pair : List ℕ × List ℕ). has_key pair.0 p) named ≡ true
 has_keys named payload.Nothing e = no e
 has_keys named (payload.Reason given) e = no e
-has_keys named (payload.Outcome s m) e = no e
+has_keys named (payload.Outcome outcome) e = no e
 has_keys named (payload.Report given) e =
     keys_within named given
     (and_parts (list_all (λ pair. list_any (same_pair pair) given) named)

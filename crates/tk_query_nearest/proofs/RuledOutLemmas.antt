@@ -4,6 +4,7 @@ use Rattle.std.specs.Prelude.{◌==◌, count_by, if◌then◌else◌}
 use Rattle.std.proofs.lemmas.Bool.{false≢true}
 use Rattle.std.proofs.lemmas.List.Sums.{sum_by-cons}
 use Rattle.tk_events.specs.declared.events.Entry.{Entry}
+use Rattle.tk_events.specs.declared.outcomes.Outcome.TheVariants as outcomes
 use Rattle.tk_events.specs.declared.kinds.Kind.{Kind}
 use Rattle.tk_events.specs.declared.kinds.Kind.TheVariants as kinds
 use Rattle.tk_events.specs.declared.payloads.Payload.{Payload}
@@ -51,17 +52,23 @@ only_files kind payload text lawful = omega arith
 only_finishes : (kind : Kind) (payload : Payload) (text : List ℕ) → is_lawful kind payload ≡ true
     → cond (not (finished_with_message kind payload)) 1 0
     ≤ cond (not (message_contains text payload)) 1 0
-only_finishes kinds.Finished (Outcome status (Some message)) text lawful = omega arith
-only_finishes kinds.Finished (Outcome status None) text lawful = omega arith
-only_finishes kind (Outcome status message) text lawful = absurd (false≢true lawful)
+only_finishes kinds.Finished (Outcome outcomes.Successful) text lawful = omega arith
+only_finishes kinds.Finished (Outcome (outcomes.Aborted None)) text lawful = omega arith
+only_finishes kinds.Finished (Outcome (outcomes.Aborted (Some message))) text lawful = omega arith
+only_finishes kinds.Finished (Outcome (outcomes.Failed None)) text lawful = omega arith
+only_finishes kinds.Finished (Outcome (outcomes.Failed (Some message))) text lawful = omega arith
+only_finishes kind (Outcome outcome) text lawful = absurd (false≢true lawful)
 only_finishes kind payload text lawful = omega arith
 
 only_explained : (kind : Kind) (payload : Payload) (text : List ℕ) → is_lawful kind payload ≡ true
     → cond (not (finished_with_message kind payload)) 1 0
     ≤ cond (not (has_message text payload)) 1 0
-only_explained kinds.Finished (Outcome status (Some message)) text lawful = omega arith
-only_explained kinds.Finished (Outcome status None) text lawful = omega arith
-only_explained kind (Outcome status message) text lawful = absurd (false≢true lawful)
+only_explained kinds.Finished (Outcome outcomes.Successful) text lawful = omega arith
+only_explained kinds.Finished (Outcome (outcomes.Aborted None)) text lawful = omega arith
+only_explained kinds.Finished (Outcome (outcomes.Aborted (Some message))) text lawful = omega arith
+only_explained kinds.Finished (Outcome (outcomes.Failed None)) text lawful = omega arith
+only_explained kinds.Finished (Outcome (outcomes.Failed (Some message))) text lawful = omega arith
+only_explained kind (Outcome outcome) text lawful = absurd (false≢true lawful)
 only_explained kind payload text lawful = omega arith
 
 all_counted : (pairs : List (List ℕ × List ℕ)) → length pairs ≤ count_by (λ pair. true) pairs

@@ -11,7 +11,7 @@ ghost use Rattle.tk_query_nearest.specs.Parts.{distance, has_key, member_parts, 
 ghost use Rattle.tk_query_nearest.specs.steps.RuledOut.{ruled_out_of};
 
 use crate::ruled_out::RuledOut;
-use tk_events::{Kind, Payload, Status};
+use tk_events::{Kind, Outcome, Payload, Status};
 use tk_ids::Text;
 use tk_query::holds;
 use tk_query_conditions::Condition;
@@ -30,7 +30,9 @@ fn message_contains(payload: &Payload, text: &Text) -> bool
     ensures { result ≡ message_contains text.now payload.now }
 {
     match payload {
-        Payload::Outcome(_, Some(given)) => contains(given.as_str(), text.as_str()),
+        Payload::Outcome(Outcome::Aborted(Some(given)) | Outcome::Failed(Some(given))) => {
+            contains(given.as_str(), text.as_str())
+        }
         _ => false,
     }
 }
@@ -87,7 +89,7 @@ fn finished_so(event: &EntryView, status: Status) -> bool
     ensures { result ≡ of_status status (entry_of_view event.now) }
 {
     match (event.kind, event.payload) {
-        (Kind::Finished, Payload::Outcome(given, _)) => *given == status,
+        (Kind::Finished, Payload::Outcome(outcome)) => outcome.status() == status,
         _ => false,
     }
 }

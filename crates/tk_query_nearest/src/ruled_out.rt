@@ -7,7 +7,7 @@ ghost use Rattle.tk_query_conditions.specs.steps.Reader.{conds_from};
 ghost use Rattle.tk_query_nearest.specs.steps.RuledOut.{finished_with_message, lack_of_kind, lack_of_outcome, lack_of_status, ruled_out, ruled_out_of, ruled_out_of_finish};
 
 use crate::parts::{MAX_DISTANCE, lack};
-use tk_events::{Kind, Payload, Status};
+use tk_events::{Kind, Outcome, Payload, Status};
 use tk_query_conditions::Condition;
 use tk_record::EntryView;
 
@@ -137,11 +137,11 @@ impl RuledOut {
             (Kind::Dynamic, _) => self.dynamic,
             (Kind::Skipped, _) => self.skipped,
             (Kind::Started, _) => self.started,
-            (Kind::Finished, Payload::Outcome(Status::Successful, None)) => self.successful,
-            (Kind::Finished, Payload::Outcome(Status::Aborted, None)) => self.aborted,
-            (Kind::Finished, Payload::Outcome(Status::Aborted, _)) => self.aborted_with_message,
-            (Kind::Finished, Payload::Outcome(Status::Failed, None)) => self.failed,
-            (Kind::Finished, Payload::Outcome(Status::Failed, _)) => self.failed_with_message,
+            (Kind::Finished, Payload::Outcome(Outcome::Successful)) => self.successful,
+            (Kind::Finished, Payload::Outcome(Outcome::Aborted(None))) => self.aborted,
+            (Kind::Finished, Payload::Outcome(Outcome::Aborted(_))) => self.aborted_with_message,
+            (Kind::Finished, Payload::Outcome(Outcome::Failed(None))) => self.failed,
+            (Kind::Finished, Payload::Outcome(Outcome::Failed(_))) => self.failed_with_message,
             (Kind::Finished, _) => 0,
             (Kind::Reporting, _) => self.reporting,
             (Kind::File, _) => self.file,

@@ -2,7 +2,7 @@
 -- its kind rules out and, where it finished, its status and whether it has a message. A status
 -- stands as its code, 0 where the event is no finish.
 use Rattle.std.specs.Prelude.{ℕ, ◌+◌, ◌*◌, min, Bool, true, false, not, ◌&&◌, ◌==◌, if◌then◌else◌}
-use Rattle.std.specs.Prelude.{Some, length}
+use Rattle.std.specs.Prelude.{is_some, length}
 use Rattle.tk_events.specs.declared.kinds.Kind.{Kind}
 use Rattle.tk_events.specs.declared.kinds.Kind.TheVariants as kinds
 use Rattle.tk_events.specs.declared.statuses.Status.{Status}
@@ -10,6 +10,7 @@ use Rattle.tk_events.specs.declared.statuses.Status.TheVariants as statuses
 use Rattle.tk_events.specs.declared.payloads.Payload.{Payload}
 use Rattle.tk_events.specs.declared.payloads.Payload.TheVariants.{Outcome}
 use Rattle.tk_events.specs.Event.{kind_code, status_code}
+use Rattle.tk_events.specs.Outcomes.{message_of}
 use Rattle.tk_query_conditions.specs.Cond as cond
 use Rattle.tk_query_conditions.specs.Cond.{Cond, Plain, With, OfKind, HasPairs, All}
 use Rattle.tk_query_conditions.specs.Cond.{Conds, Nothing, More}
@@ -27,7 +28,7 @@ lack_of_status asked status = if not (status == status_code asked) then 1 else 0
 
 -- whether the event is a finish with a message
 abbrev pub finished_with_message : Kind → Payload → Bool
-finished_with_message kinds.Finished (Outcome status (Some message)) = true
+finished_with_message kinds.Finished (Outcome outcome) = is_some (message_of outcome)
 finished_with_message kind payload = false
 
 -- how many of a status, of a message and of both an event lacks
