@@ -1,13 +1,12 @@
 """The rules for sources: what would break silently. `rt ci` doesn't refuse these things itself."""
 
+import re
 from dataclasses import dataclass
 from typing import Callable, Dict, List, Sequence
 
 import calls
-import edits
 import files
 import headline
-import memory
 from facade import unnamed_words, unused_names
 from reach import reach_faults
 from restated import restated
@@ -22,7 +21,7 @@ class Limits:
     handles: str
     without_clause: Sequence[str] = ()
     """Public functions without a clause, by file and name."""
-    fewest_edits: int = 0
+    fewest_wrong_bodies: int = 0
     fewest_tests: int = 0
     most_restated: int = 0
     """How many statements may be those of two lemmas."""
@@ -35,16 +34,14 @@ def rules_of(tree: Tree, limits: Limits) -> Dict[str, Rule]:
     """The rules by their names: each is a function that answers what breaks it."""
     sources = sources_of(tree)
     tests = [line for it in sources if it.is_test for line in it.code if line.strip() == "#[test]"]
+    wrong_bodies = [path for path in tree.files if re.fullmatch(r"crates/\w+/must-fail/\w+\.edit", path)]
     return {
         "each public function is called": lambda: calls.uncalled(sources),
         "each public function has a clause": lambda: calls.without_clause(sources, limits.without_clause),
         "each name that is given out to authors is used": lambda: unused_names(tree, sources),
         "each word of their clauses can be named": lambda: unnamed_words(tree, sources),
-        "each fault of memory that is made has a reason": lambda: memory.unexplained(sources),
-        "each wrong body can be applied, and changes code alone": lambda: edits.edit_faults(tree),
-        "no fewer wrong bodies than there were": lambda: fewer("wrong bodies", len(edits.edits_of(tree)), limits.fewest_edits),
+        "no fewer wrong bodies than there were": lambda: fewer("wrong bodies", len(wrong_bodies), limits.fewest_wrong_bodies),
         "no fewer tests than there were": lambda: fewer("tests", len(tests), limits.fewest_tests),
-        "each file is read": lambda: files.unread(tree),
         "no code is unsafe or foreign": lambda: files.unsafe(sources),
         "lines of clauses and definitions can be read": lambda: files.long_lines(tree, sources),
         "specs/steps has what no public contract reaches, and nothing else": lambda: reach_faults(tree),

@@ -40,17 +40,16 @@ def blank(found: "re.Match[str]") -> str:
 
 
 class Source:
-    """A file of a crate's src, or a text that an edit made of one."""
+    """A file of a crate's src."""
 
     def __init__(self, path: str, text: str) -> None:
         self.path, self.crate, self.lines = path, path.split("/")[1], text.split("\n")
         self.is_test = self.crate.startswith("test_")
-        self.quoted = [found for found in NO_CODE.findall(text) if not found.startswith("//")]
         self.code = [line.rstrip() for line in NO_CODE.sub(blank, text).split("\n")]
         self.clause_lines = self._clause_lines()
         self.clauses = [line for number, line in enumerate(self.code, 1) if number in self.clause_lines]
-        self.others = [line for number, line in enumerate(self.code, 1) if number not in self.clause_lines]
-        self.body = NO_CALL.sub("", "\n".join(self.others))
+        others = [line for number, line in enumerate(self.code, 1) if number not in self.clause_lines]
+        self.body = NO_CALL.sub("", "\n".join(others))
 
     def _clause_lines(self) -> Set[int]:
         """The numbers of the lines that clauses have, counted from 1."""

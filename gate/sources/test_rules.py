@@ -7,7 +7,7 @@ from rules import Limits, rules_of
 from small_tree import SmallTree, rows_of
 from tree import Tree
 
-LIMITS = Limits("Handles allowed: Threads, Wait.\n", ["crates/tk_low/src/lanes.rt spare"], fewest_edits=2, fewest_tests=2)
+LIMITS = Limits("Handles allowed: Threads, Wait.\n", ["crates/tk_low/src/lanes.rt spare"], fewest_wrong_bodies=2, fewest_tests=2)
 
 
 class Rules(SmallTree):
