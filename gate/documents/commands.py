@@ -12,7 +12,7 @@ import subprocess
 from dataclasses import dataclass, field
 from typing import List, Sequence
 
-from documents import Document
+from documents import INDENT, Document
 from fixtures import run
 
 
@@ -44,11 +44,12 @@ def is_shown(printed: Sequence[str], shown: Sequence[str]) -> bool:
 
 def examples_of(document: Document) -> List[Example]:
     found: List[Example] = []
-    for block in [it for it in document.blocks() if it.is_indented]:
-        begun = len(found)
-        for number, line in enumerate(block.lines, block.number):
-            if line.startswith("$ "):
-                found.append(Example(f"{document.path}:{number}", line[len("$ ") :]))
-            elif len(found) > begun:
-                found[-1].lines.append(line)
+    is_open = False
+    for number, line, kind in document.parts():
+        is_command = kind == "indented" and line.startswith(f"{INDENT}$ ")
+        is_open = is_command or is_open and kind == "indented"
+        if is_command:
+            found.append(Example(f"{document.path}:{number}", line[len(f"{INDENT}$ ") :]))
+        elif is_open:
+            found[-1].lines.append(line[len(INDENT) :])
     return found

@@ -1,22 +1,12 @@
-"""A document and its parts: lines of text, spans of code in backquotes, blocks of code."""
+"""A document and its parts: lines of text, spans of code in backquotes, lines of code."""
 
 import glob
 import os
 import re
 from dataclasses import dataclass
-from itertools import groupby
 from typing import Iterator, List, Tuple
 
 INDENT = " " * 4
-
-
-@dataclass(frozen=True)
-class Block:
-    """A block of code, indented or between fences: the number of its first line, and its lines without their indentation."""
-
-    number: int
-    lines: List[str]
-    is_indented: bool
 
 
 @dataclass(frozen=True)
@@ -43,15 +33,6 @@ class Document:
     def spans(self) -> List[Tuple[int, str]]:
         """What stands in backquotes outside blocks of code, with the number of its line."""
         return [(number, span) for number, line in self.prose() for span in re.findall(r"`([^`]+)`", line)]
-
-    def blocks(self) -> List[Block]:
-        """The blocks of code, in their order."""
-        groups = [(kind, list(parts)) for kind, parts in groupby(self.parts(), key=lambda part: part[2])]
-        return [
-            Block(parts[0][0], [line[len(INDENT) :] if kind == "indented" else line for _, line, _ in parts], kind == "indented")
-            for kind, parts in groups
-            if kind in ("indented", "fenced")
-        ]
 
 
 def documents_of(top: str) -> List[Document]:

@@ -1,21 +1,15 @@
-"""The rules for documents: which there are, which names and files they point at, where their figures stand, and what the headline says."""
+"""The rules for documents: which there are, which names and files they point at, and what the headline says."""
 
 import os
 import re
-from typing import Callable, Dict, List, Sequence, Set, Tuple
+from typing import Callable, Dict, List, Sequence
 
 from documents import Document
 from names import name_faults
 from tree import Tree
 
-MEASURED = re.compile(r"^Measured \(`docs/SPEED\.md`\): (.*)", re.MULTILINE)
-"""The line of README.md with figures of docs/SPEED.md."""
-
 HEADLINE = "crates/testkit_headline/specs/Headline.antt"
 """The theorem, whose fields have the parts of README.md's headline as their comments."""
-
-COMMAND_OR_FIGURE = re.compile(r"`([^`]+)`|(\d+(?:\.\d+)?)")
-"""A command in backquotes, or a figure."""
 
 
 def rules_of(tree: Tree, documents: Sequence[Document], listed: Sequence[str]) -> Dict[str, Callable[[], List[str]]]:
@@ -24,7 +18,6 @@ def rules_of(tree: Tree, documents: Sequence[Document], listed: Sequence[str]) -
         "each document is there, and in the list": lambda: missing_faults(tree, documents, listed),
         "each name in backquotes is there": lambda: name_faults(tree, documents),
         "each picture is there": lambda: [fault for it in documents for fault in picture_faults(tree, it)],
-        "each figure of README.md stands in docs/SPEED.md": lambda: figure_faults(documents),
         "the headline of README.md is that of the theorem": lambda: headline_faults(tree),
         "each backquote and each fence has an end": lambda: [fault for it in documents for fault in form_faults(it)],
     }
@@ -50,27 +43,6 @@ def form_faults(document: Document) -> List[str]:
     odd = [f"{document.path}:{number}: a backquote has no second one in its line" for number, line in document.prose() if line.count("`") % 2]
     is_open = sum(kind == "fence" for _, _, kind in document.parts()) % 2
     return odd + [f"{document.path}: a fence has no end"] * is_open
-
-
-def figures_of(parts: Sequence[str]) -> Set[Tuple[str, str]]:
-    """The figures of parts of a text, each with each command that its part names; where it names none, that the part before names."""
-    found: Set[Tuple[str, str]] = set()
-    commands: List[str] = []
-    for part in parts:
-        pairs = COMMAND_OR_FIGURE.findall(part)
-        commands = [command for command, _ in pairs if command] or commands
-        found |= {(command, figure) for command in commands for _, figure in pairs if figure}
-    return found
-
-
-def figure_faults(documents: Sequence[Document]) -> List[str]:
-    """Figures of README.md that no line of docs/SPEED.md about the same command has."""
-    texts = {it.path: it.text for it in documents}
-    repeated = figures_of(re.split(r"; |\. ", "".join(MEASURED.findall(texts.get("README.md", "")))))
-    measured = figures_of(texts.get("docs/SPEED.md", "").split("\n"))
-    if not repeated:
-        return ["README.md has no figures of docs/SPEED.md"]
-    return [f"README.md: docs/SPEED.md has no {figure} of {command}" for command, figure in sorted(repeated - measured)]
 
 
 def headline_faults(tree: Tree) -> List[str]:

@@ -1,4 +1,4 @@
-"""Holds the checks of commands, names, quotes and figures against small trees that are right, or wrong in one way."""
+"""Holds the checks of commands, names and quotes against small trees that are right, or wrong in one way."""
 
 from operator import itemgetter
 
