@@ -1,38 +1,32 @@
 """Builds what the scripts measure: programs over the repository's crates in a scratch folder, and plain Rust programs."""
 
-import argparse
 import multiprocessing
 import os
 import shutil
 import subprocess
 import sys
 import tempfile
-from typing import Callable, Sequence
+from typing import Callable, List, Sequence
 
 BENCH = os.path.dirname(os.path.realpath(__file__))
 ROOT = os.path.dirname(BENCH)
+sys.path.insert(0, f"{ROOT}/tools")
 
-class NotMeasured(Exception):
-    """Nothing was measured, for the reason given."""
-
-
-class Parser(argparse.ArgumentParser):
-    def error(self, message: str) -> None:
-        raise NotMeasured(message)
+from asking import Failed, Words, run_script
 
 
 def main(measure: Callable[..., None], description: str, takes_program: bool = False) -> None:
-    """Calls `measure` with a scratch folder, and with the path of the program where it takes one; the status is 70 where it can't be done."""
-    parser = Parser(description=description.splitlines()[0])
+    """Calls `measure` with a scratch folder, and with the path of the program where it takes one."""
+    parser = Words(os.path.relpath(sys.argv[0], ROOT), description)
     if takes_program:
         parser.add_argument("program", metavar="PROGRAM", type=os.path.realpath)
-    try:
-        words = parser.parse_args()
+
+    def measured(words: List[str]) -> int:
         with tempfile.TemporaryDirectory(prefix="bench-") as folder:
-            measure(folder, **vars(words))
-    except (NotMeasured, OSError) as fault:
-        print(f"{parser.prog}: {fault}", file=sys.stderr)
-        sys.exit(70)
+            measure(folder, **vars(parser.parse_args(words)))
+        return 0
+
+    run_script(parser.prog, measured)
 
 
 def call(command: Sequence[str], folder: str = ".", **how) -> bytes:
@@ -41,7 +35,7 @@ def call(command: Sequence[str], folder: str = ".", **how) -> bytes:
     if ran.returncode:
         lines = (ran.stdout + ran.stderr).decode(errors="replace").splitlines(True)
         sys.stderr.write("".join(lines[-20:]))
-        raise NotMeasured(f"{' '.join(command[:2])} ended with status {ran.returncode}")
+        raise Failed(f"{' '.join(command[:2])} ended with status {ran.returncode}")
     return ran.stdout
 
 
@@ -51,25 +45,25 @@ def apart(function: Callable[..., None], *words) -> None:
     process.start()
     process.join()
     if process.exitcode:
-        raise NotMeasured("an input was not written")
+        raise Failed("an input was not written")
 
 
-def build_crate(folder: str, line: str, source: str, command: str = "run", input_path: str = os.devnull) -> str:
-    """Copies the crates and adds one with this line of crates.txt and this source of `bench/`, which `rt run` or `rt lib` proves and builds.
+def build_program(folder: str, line: str, source: str, input_path: str = os.devnull) -> str:
+    """Copies the crates, adds a program with this line of crates.txt and this source of `bench/`, proves, builds and runs it; returns its path.
 
-    It begins with the libraries that `rt` has kept of these sources on this machine. Returns the folder of what was built.
+    It begins with the libraries that `rt` has kept of these sources on this machine.
     """
     shutil.copytree(f"{ROOT}/crates", f"{folder}/crates", ignore=shutil.ignore_patterns("out", "must-fail"))
     for name in ("HANDLES", "crates.txt"):
         shutil.copy(f"{ROOT}/{name}", folder)
     with open(f"{folder}/crates.txt", "a", encoding="utf-8") as file:
         file.write(line + "\n")
-    crate = f"{folder}/crates/{line.partition(':')[0].split()[0]}"
-    os.makedirs(f"{crate}/src")
-    shutil.copy(f"{BENCH}/{source}", f"{crate}/src/{'main' if command == 'run' else 'lib'}.rt")
+    name = line.partition(":")[0].split()[0]
+    os.makedirs(f"{folder}/crates/{name}/src")
+    shutil.copy(f"{BENCH}/{source}", f"{folder}/crates/{name}/src/main.rt")
     with open(input_path, "rb") as file:
-        call(["rt", command], crate, stdin=file)
-    return f"{crate}/out"
+        call(["rt", "run"], f"{folder}/crates/{name}", stdin=file)
+    return f"{folder}/crates/{name}/out/{name}"
 
 
 MANIFEST = """package = {name = "plain", version = "0.0.0", edition = "2021"}
@@ -91,7 +85,7 @@ def compile_on_serde(folder: str, source: str) -> str:
     return f"{folder}/plain/target/release/plain"
 
 
-def compile_plain(folder: str, source: str, flags: Sequence[str] = ("-O",)) -> str:
+def compile_plain(folder: str, source: str) -> str:
     """Compiles a plain Rust program of `bench/`; returns its path."""
-    call(["rustc", "--edition", "2021", *flags, f"{BENCH}/{source}", "-o", f"{folder}/plain"])
+    call(["rustc", "--edition", "2021", "-O", f"{BENCH}/{source}", "-o", f"{folder}/plain"])
     return f"{folder}/plain"

@@ -17,11 +17,11 @@ MODES = {"each a unit": "concurrent", "one unit": "same_thread"}
 def measure(folder: str) -> None:
     for mode in MODES.values():
         building.apart(plans.write, f"{folder}/{mode}", lambda mode=mode: dict(children=[plans.test("t", str(it), mode=mode) for it in range(TESTS)]))
-    program = building.build_crate(folder, LINE, "bodies/main.rt.in", input_path=f"{folder}/concurrent") + "/bodies_bench"
+    program = building.build_program(folder, LINE, "bodies/main.rt.in", f"{folder}/concurrent")
     for shape, mode in MODES.items():
         bodies, scripted = timing.take([[program, "bodies"], [program]], f"{folder}/{mode}", folder)
         if bodies.begins() != scripted.begins():
-            raise building.NotMeasured("the runs have different numbers of events")
+            raise building.Failed("the runs have different numbers of events")
         print(
             f"{TESTS} tests, {shape}, {timing.load()}: bodies processor {bodies.processor:.3f} s, clock {bodies.clock:.3f} s,"
             f" scripted {scripted.processor:.3f} s, {scripted.clock:.3f} s, ratio {bodies.over(scripted)}",

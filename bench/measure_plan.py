@@ -44,7 +44,7 @@ def seconds(command: List[str], path: str) -> List[float]:
 def measure(folder: str) -> None:
     for shape, members in SHAPES.items():
         building.apart(plans.write, f"{folder}/{shape}", members)
-    program = building.build_crate(folder, LINE, "plan/main.rt.in", input_path=f"{folder}/static-small") + "/plan_bench"
+    program = building.build_program(folder, LINE, "plan/main.rt.in", f"{folder}/static-small")
     for shape in SHAPES:
         path = f"{folder}/{shape}"
         rounds = [seconds([program, "json"], path) + seconds([program], path) for _ in range(timing.ROUNDS)]

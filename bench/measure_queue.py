@@ -21,7 +21,7 @@ EVENTS_OF_A_SENDER = 50_000
 
 
 def measure(folder: str) -> None:
-    ours, plain = building.build_crate(folder, LINE, "queue/main.rt.in") + "/queue_bench", building.compile_plain(folder, "queue/plain.rs")
+    ours, plain = building.build_program(folder, LINE, "queue/main.rt.in"), building.compile_plain(folder, "queue/plain.rs")
     commands = {"ours": [ours], **{waiting: [plain, waiting] for waiting in ("sleep", "yield", "batch")}}
     rates: Dict[Tuple[str, int], List[float]] = defaultdict(list)
     # (each run prints three rounds)
@@ -30,7 +30,7 @@ def measure(folder: str) -> None:
             for line in building.call([*timing.PRIORITY, *command]).splitlines():
                 senders, events, microseconds = map(int, line.split())
                 if events != senders * EVENTS_OF_A_SENDER:
-                    raise building.NotMeasured(f"{events} events of {senders} senders came")
+                    raise building.Failed(f"{events} events of {senders} senders came")
                 rates[name, senders].append(events / microseconds)
     print(timing.load())
     for senders in sorted(senders for name, senders in rates if name == "ours"):

@@ -44,7 +44,7 @@ def measure(folder: str, program: str) -> None:
             of_run = ["run", "--workers", str(workers)]
             ours, theirs = timing.take([[program, *of_run], [plain, *of_run]], plan, folder)
             if not filecmp.cmp(ours.output, theirs.output, shallow=False):
-                raise building.NotMeasured(f"{name}: the reports differ")
+                raise building.Failed(f"{name}: the reports differ")
             memory = f"memory {ours.memory:.0f} MiB, plain {theirs.memory:.0f} MiB"
             print(f"  {workers} workers: {timing.beside(ours, theirs)}; {memory}", flush=True)
 

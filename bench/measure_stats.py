@@ -10,7 +10,6 @@ import filecmp
 import os
 
 import building
-import measure_questions
 import records
 import timing
 
@@ -20,7 +19,7 @@ QUESTIONS = [
     ("many_tests", ["stats"]),
     ("large", ["executions"]),
     ("large", ["list", "all"]),
-    ("large", measure_questions.IN_ORDER),
+    ("large", ["match", "in-order", *(f"failed(step {number})" for number in range(records.STEPS))]),
     ("large", ["match", "loosely", "failed(the last event)"]),
 ]
 

@@ -1,13 +1,11 @@
 """Large records, each as the pieces of its text."""
 
-from typing import Callable, Dict, Iterable, Iterator, List
+from typing import Callable, Dict, Iterator
 
 EVENTS = 640_000
 TESTS = 2_000
 STEPS = 1_000
 """How many events of `large` carry a message of their own, spread evenly."""
-
-DESCRIPTORS = 65_000
 
 
 def large() -> Iterator[str]:
@@ -21,43 +19,6 @@ def large() -> Iterator[str]:
         if position == EVENTS - 1:
             ending = "finish|fail|the last event"
         yield f"E|1|{position // 2 % TESTS}|{position}|{ending}\n"
-
-
-def text_of(ids: List[str], events: Iterable[str]) -> Iterator[str]:
-    """A record of these ids, each with a name, and of these keys and tails, with rising stamps."""
-    yield "testkit-record|2\n"
-    for number, it in enumerate(ids):
-        yield f"N|{'T' if 'method' in it else 'C'}|{it}|the one of number {number}, with a display name that says what it shows in words\n"
-    yield from (f"E|1|{event.replace('#', str(stamp))}\n" for stamp, event in enumerate(events))
-
-
-def runs(keys: range) -> List[str]:
-    """A start and a finish of each key, one after the other."""
-    return [event for key in keys for event in (f"{key}|#|start", f"{key}|#|finish|ok")]
-
-
-def tree() -> Iterator[str]:
-    """100 classes below an engine, and tests below the classes: as many descriptors as there may be, almost."""
-    engine = "[engine:junit-jupiter]"
-    classes = [f"{engine}/[class:org.example.project.part.ClassOfTestsOfNumber{number}]" for number in range(100)]
-    ids, events = [engine, *classes], ["0|#|start"]
-    for number, above in enumerate(classes):
-        first = len(ids)
-        ids += [f"{above}/[method:worksForTheCaseThatHasTheNumber{test}()]" for test in range((DESCRIPTORS - 1) // 100 - 1)]
-        events += [f"{number + 1}|#|start", *runs(range(first, len(ids))), f"{number + 1}|#|finish|ok"]
-    return text_of(ids, [*events, "0|#|finish|ok"])
-
-
-def one_test() -> Iterator[str]:
-    """One test, between whose start and finish it reports."""
-    return text_of(["[method:one]"], ["0|#|start", *["0|7|report"] * (799_998), "0|#|finish|ok"])
-
-
-def one_parent() -> Iterator[str]:
-    """Tests that all stand below the engine."""
-    ids = ["[engine:junit-jupiter]"]
-    ids += [f"[engine:junit-jupiter]/[method:worksForTheCaseThatHasTheNumber{it}InOneEngineThatHasAllTestsBelowItself()]" for it in range(DESCRIPTORS - 1)]
-    return text_of(ids, ["0|#|start", *runs(range(1, DESCRIPTORS)), "0|#|finish|ok"])
 
 
 def many_events(above: str) -> Iterator[str]:
@@ -85,21 +46,11 @@ def many_tests() -> Iterator[str]:
     yield from (f"E|1|{key}|{2 * number}|start\nE|1|{key}|{2 * number + 1}|finish|ok\n" for number, key in enumerate(tests))
 
 
-def locked() -> Iterator[str]:
-    """The record of `many_tests`, in which each of 65,000 descriptors holds one of 4,000 locks."""
-    nodes, mark, events = "".join(many_tests()).replace("record|2", "record|3").partition("E|")
-    return iter([nodes, *(f"L|{key}|{'RW'[key % 7 == 0]}|lock {key % 4_000}\n" for key in range(1, 65_001)), mark, events])
-
-
 RECORDS: Dict[str, Callable[[], Iterator[str]]] = {
     "large": large,
-    "tree": tree,
-    "one_test": one_test,
-    "one_parent": one_parent,
     "one_segment": lambda: many_events(""),
     "two_segments": lambda: many_events("[engine:e]"),
     "many_tests": many_tests,
-    "locked": locked,
 }
 
 

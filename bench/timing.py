@@ -10,7 +10,7 @@ from dataclasses import dataclass, field
 from statistics import median
 from typing import List, Sequence
 
-from building import NotMeasured
+from building import Failed
 
 ROUNDS = 5
 """How often each command is run, in turn with the others, so that all meet the same load."""
@@ -44,7 +44,7 @@ class Taken:
             child = subprocess.Popen([*PRIORITY, *command], stdin=given, stdout=written)
             _, child.returncode, usage = os.wait4(child.pid, 0)
         if child.returncode:
-            raise NotMeasured(f"{' '.join(command[:3])} failed")
+            raise Failed(f"{' '.join(command[:3])} failed")
         self.clocks.append(time.monotonic() - begun)
         self.processors.append(usage.ru_utime + usage.ru_stime)
         self.memory = max(self.memory, usage.ru_maxrss / 1024)
