@@ -9,7 +9,7 @@ import json
 import os
 import subprocess
 from dataclasses import asdict, dataclass
-from typing import List, Optional
+from typing import Optional
 
 PROGRAM = "crates/testkit/out/testkit"
 RUN = "crates/testkit/out/checked"
@@ -33,12 +33,10 @@ class State:
 class Run:
     """A run of the gate in which nothing failed; `program` is the hash of the program's file."""
 
-    commit: str
     tree: str
     kit: str
     program: str
     passed: int
-    date: str
 
 
 def git(top: str, *words: str, given: bytes = b"") -> bytes:
@@ -54,22 +52,10 @@ def git(top: str, *words: str, given: bytes = b"") -> bytes:
 
 
 def state_of(top: str) -> State:
-    """Reads the state of a work tree, in which files that .gitignore doesn't name count as changes."""
-    if os.path.realpath(git(top, "rev-parse", "--show-toplevel").decode().rstrip("\n")) != os.path.realpath(top):
-        raise Unknown(f"{top} is not the top of a repository")
+    """Reads the state of a work tree, in which files that git doesn't ignore count as changes."""
     commit, tree = git(top, "rev-parse", "HEAD", "HEAD^{tree}").decode().split()
-    return State(commit, tree, (changes_of(top) or [""])[0])
-
-
-def changes_of(top: str) -> List[str]:
-    """Lists the files that differ from the commit, and those of which `git status` may not say it.
-
-    These are the files that are marked in the index, and new ones that .git/info/exclude or a user's settings name.
-    """
-    status = git(top, "-c", "core.fileMode=true", "status", "--porcelain", "--untracked-files=no")
-    marked = [line[2:] for line in git(top, "ls-files", "-v").decode(errors="replace").splitlines() if not line.startswith("H ")]
-    others = git(top, "ls-files", "--others", "--exclude-per-directory=.gitignore").decode(errors="replace").splitlines()
-    return [line[3:] for line in status.decode(errors="replace").splitlines()] + marked + others
+    status = git(top, "-c", "core.fileMode=true", "status", "--porcelain", "--untracked-files=all").decode(errors="replace")
+    return State(commit, tree, next((line[3:] for line in status.splitlines()), ""))
 
 
 def hash_of(path: str) -> str:
@@ -92,5 +78,5 @@ def read(top: str) -> Optional[Run]:
 
 
 def remove(top: str) -> None:
-    if os.path.lexists(f"{top}/{RUN}"):
+    with contextlib.suppress(FileNotFoundError):
         os.remove(f"{top}/{RUN}")

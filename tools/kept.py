@@ -50,11 +50,6 @@ def jar_of(top: str) -> bytes:
     return listener.make_jar({name: read(f"{top}/{name}") for name in [*names, "LICENSE", "VERSION"]})
 
 
-def can_compare_jar(top: str) -> bool:
-    """Whether the compiler that made the jar of bin/ is here."""
-    return listener.can_be_made() and f"# {listener.compiler()}\n".encode() in read(f"{top}/bin/{PROVED_WITH}")
-
-
 def proved_with(top: str, compiler: str, files: Dict[str, bytes]) -> bytes:
     kit = subprocess.run(["rt", "version"], stdin=subprocess.DEVNULL, stdout=subprocess.PIPE, text=True, check=True).stdout.splitlines()[0]
     sources = shell(top, "sum_of_sources").stdout.strip()
@@ -62,28 +57,27 @@ def proved_with(top: str, compiler: str, files: Dict[str, bytes]) -> bytes:
     return f"# kit {kit}\n# sources {sources}\n# {compiler}\n{sums}".encode()
 
 
-def without_kit(text: bytes) -> bytes:
-    """Returns the text of PROVED-WITH without its first line: another kit that builds the same bytes renews nothing."""
-    return text.partition(b"\n")[2]
+def compared(name: str, data: bytes) -> bytes:
+    """Returns what counts of a file: of PROVED-WITH not its first line, since another kit that builds the same bytes renews nothing."""
+    return data.partition(b"\n")[2] if name == PROVED_WITH else data
 
 
-def wanted(top: str) -> Dict[str, bytes]:
+def differing(top: str, compiler: str, jar: bytes) -> Dict[str, bytes]:
+    """Returns what was built, with a jar that this compiler made, as far as bin/ has it otherwise."""
+    files = {PROGRAM: built(top), listener.JAR: jar}
+    files[PROVED_WITH] = proved_with(top, compiler, files)
+    return {name: data for name, data in files.items() if compared(name, read(f"{top}/bin/{name}")) != compared(name, data)}
+
+
+def renew(top: str) -> Dict[str, bytes]:
+    """Writes the files of bin/ that differ, each once it is whole, and returns them."""
     if not listener.can_be_made():
         raise Failed(listener.MISSING)
-    files = {PROGRAM: built(top), listener.JAR: jar_of(top)}
-    return {**files, PROVED_WITH: proved_with(top, listener.compiler(), files)}
-
-
-def renew(top: str) -> List[str]:
-    """Writes the files of bin/ that differ, each once it is whole, and returns their names."""
-    files = wanted(top)
-    if without_kit(read(f"{top}/bin/{PROVED_WITH}")) == without_kit(files[PROVED_WITH]):
-        del files[PROVED_WITH]
-    changed = [name for name, data in files.items() if read(f"{top}/bin/{name}") != data]
+    changed = differing(top, listener.compiler(), jar_of(top))
     os.makedirs(f"{top}/bin", exist_ok=True)
-    for name in changed:
+    for name, data in changed.items():
         with open(f"{top}/bin/.{name}", "wb") as file:
-            file.write(files[name])
+            file.write(data)
         os.chmod(f"{top}/bin/.{name}", 0o755 if name == PROGRAM else 0o644)
         os.replace(f"{top}/bin/.{name}", f"{top}/bin/{name}")
     return changed
@@ -91,16 +85,7 @@ def renew(top: str) -> List[str]:
 
 def faults(top: str) -> List[str]:
     """Says what is wrong with bin/. The jar is compared where the compiler that made it is here."""
-    here = {name: read(f"{top}/bin/{name}") for name in (PROGRAM, listener.JAR, PROVED_WITH)}
-    found = [f"bin/{name} is missing" for name, data in here.items() if not data]
-    if found:
-        return found
-    if here[PROGRAM] != built(top):
-        found.append(f"bin/{PROGRAM} is not {checked.PROGRAM}")
-    if can_compare_jar(top) and here[listener.JAR] != jar_of(top):
-        found.append(f"bin/{listener.JAR} is not the jar of {listener.SOURCES}")
-    said = here.pop(PROVED_WITH)
-    compiler = "".join(re.findall("^# (javac-.*)", said.decode(errors="replace"), re.MULTILINE))
-    if without_kit(said) != without_kit(proved_with(top, compiler, here)):
-        found.append(f"bin/{PROVED_WITH} has another sum")
-    return found
+    made_by = "".join(re.findall("^# (javac-.*)", read(f"{top}/bin/{PROVED_WITH}").decode(errors="replace"), re.MULTILINE))
+    can_compare = listener.can_be_made() and listener.compiler() == made_by
+    changed = differing(top, made_by, jar_of(top) if can_compare else read(f"{top}/bin/{listener.JAR}"))
+    return [f"bin/{name} is not what was built here" for name in changed]

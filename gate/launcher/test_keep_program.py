@@ -5,13 +5,13 @@ import shutil
 import sys
 import unittest
 import zipfile
+from typing import Dict
 
 import listener
 from fixtures import TOP, Ran, folder, run
-from test_launcher import KEPT, Repository
+from test_launcher import PROGRAM, Repository
 
 TOOLS = ("tools/asking.py", "tools/checked.py", "tools/keep_program", "tools/kept.py", "tools/listener.py", "LICENSE", "VERSION")
-PROGRAM, JAR, PROVED_WITH = "bin/testkit-x86_64-linux", "bin/testkit-listener.jar", "bin/PROVED-WITH"
 
 
 class Keeper(Repository):
@@ -21,42 +21,43 @@ class Keeper(Repository):
             shutil.copy(f"{TOP}/{name}", self.path(name))
         shutil.copytree(f"{TOP}/examples/junit", self.path("examples/junit"))
         self.write("commands/rt", "#!/bin/sh\necho a kit; echo more\n", 0o755)
-        self.build(KEPT)
+        self.build()
 
-    def build(self, program: str) -> None:
+    def build(self, program: str = PROGRAM) -> None:
         self.write("crates/testkit/out/testkit", program, 0o755)
 
     def renew(self, path: str = os.environ["PATH"]) -> Ran:
         return run([self.path("tools/keep_program")], env={**os.environ, "PATH": f"{self.commands}:{path}"})
 
     def read(self, name: str) -> bytes:
-        with open(self.path(name), "rb") as file:
+        with open(self.path(f"bin/{name}"), "rb") as file:
             return file.read()
 
-    def made(self):
-        return {name: self.read(f"bin/{name}") for name in os.listdir(self.path("bin"))} if os.path.isdir(self.path("bin")) else {}
+    def made(self) -> Dict[str, bytes]:
+        return {name: self.read(name) for name in sorted(os.listdir(self.path("bin")))} if os.path.isdir(self.path("bin")) else {}
 
 
-@unittest.skipUnless(listener.can_be_made(), "no javac")
 class Renewed(unittest.TestCase):
     def setUp(self) -> None:
         self.it = Keeper(self)
 
+    @unittest.skipUnless(listener.can_be_made(), "no javac")
     def test_files(self) -> None:
         """It takes the program as it is; its files have the sums that they say, and `./testkit` answers by them."""
         ran = self.it.renew()
         self.assertEqual((ran.status, ran.error), (0, b""), ran)
-        self.assertRegex(ran.output.decode(), rf"\A{PROGRAM}: {len(KEPT)} bytes, \d+ compressed\n{JAR}: \d+ bytes, \d+ compressed\n{PROVED_WITH}: .*\n\Z")
-        self.assertEqual(sorted(self.it.made()), ["PROVED-WITH", "testkit-listener.jar", "testkit-x86_64-linux"])
-        self.assertEqual((self.it.read(PROGRAM), os.access(self.it.path(PROGRAM), os.X_OK)), (KEPT.encode(), True))
-        with zipfile.ZipFile(self.it.path(JAR)) as jar:
+        names = ["PROVED-WITH", "testkit-listener.jar", "testkit-x86_64-linux"]
+        printed = sorted(line.split(b": ")[0].decode() for line in ran.output.splitlines())
+        self.assertEqual((list(self.it.made()), printed), (names, [f"bin/{it}" for it in names]))
+        self.assertEqual((self.it.read(names[2]), os.access(self.it.path(f"bin/{names[2]}"), os.X_OK)), (PROGRAM.encode(), True))
+        with zipfile.ZipFile(self.it.path(f"bin/{names[1]}")) as jar:
             self.assertIn("testkit/RecordListener.class", jar.namelist())
-        sums = r"[0-9a-f]{64}  testkit-listener\.jar\n[0-9a-f]{64}  testkit-x86_64-linux\n"
-        self.assertRegex(self.it.read(PROVED_WITH).decode(), rf"\A# kit a kit\n# sources [0-9a-f]{{64}}\n# javac-\d+\n{sums}\Z")
+        self.assertRegex(self.it.read(names[0]).decode(), r"\A# kit a kit\n# sources [0-9a-f]{64}\n# javac-\d+\n([0-9a-f]{64}  \S*\n){2}\Z")
         self.assertEqual(run(["sha256sum", "-c", "--strict", "PROVED-WITH"], cwd=self.it.path("bin")).status, 0)
         self.it.unprove()
         self.assertEqual(self.it.call("3", input=b"in").status, 3)
 
+    @unittest.skipUnless(listener.can_be_made(), "no javac")
     def test_again(self) -> None:
         """What is as it was isn't written, also under another kit; another repository of the same files has the same bytes."""
         first = (self.it.renew(), self.it.made())
@@ -65,34 +66,24 @@ class Renewed(unittest.TestCase):
         other = Keeper(self)
         self.assertEqual((other.renew(), other.made()), first)
         other.write("crates/tk_low/src/lib.rt", "new\n")
-        other.build(KEPT)
+        other.build()
         self.assertRegex(other.renew().output, rb"\Abin/PROVED-WITH: [^\n]*\n\Z")
 
+    def check_refused(self, status: int, line: bytes, path: str = os.environ["PATH"]) -> None:
+        ran = self.it.renew(path)
+        self.assertEqual((ran.status, ran.output, self.it.made(), ran.error.count(b"\n")), (status, b"", {}, 1), ran)
+        self.assertIn(b"tools/keep_program: " + line, ran.error)
+
+    @unittest.skipUnless(listener.can_be_made(), "no javac")
     def test_refused(self) -> None:
-        """There is no program, or it is older than a source."""
-        for change in (lambda it: it.unprove(), lambda it: it.write("crates/tk_low/specs/Lib.antt", "new\n")):
-            it = Keeper(self)
-            change(it)
-            ran = it.renew()
-            self.assertEqual((ran.status, ran.output, it.made()), (1, b"", {}))
-            self.assertRegex(ran.error, rb"\Atools/keep_program: there is no crates/testkit/out/testkit that is newer than its sources.*\n\Z")
-
-    def test_another_program(self) -> None:
-        """A program that doesn't say what the program says to no words isn't kept."""
+        """The program is older than a source, and then it doesn't say what the program says to no words."""
+        self.it.write("crates/tk_low/specs/Lib.antt", "new\n")
+        self.check_refused(1, b"there is no crates/testkit/out/testkit that is newer than its sources")
         self.it.build("#!/bin/sh\nexit 1\n")
-        ran = self.it.renew()
-        self.assertEqual((ran.status, self.it.made(), ran.error), (70, {}, b"tools/keep_program: crates/testkit/out/testkit ends with status 1, where it is given no words\n"))
+        self.check_refused(70, b"crates/testkit/out/testkit ends with status 1, where it is given no words")
 
-
-class NotMade(unittest.TestCase):
     def test_no_jdk(self) -> None:
-        it, at = Keeper(self), folder(self)
+        at = folder(self)
         for name, path in {"sh": "/bin/sh", "python3": sys.executable}.items():
             os.symlink(path, f"{at}/{name}")
-        ran = it.renew(at)
-        self.assertEqual((ran.status, it.made(), ran.error.count(b"\n")), (70, {}, 1), ran)
-        self.assertIn(b"tools/keep_program: without a JDK and JUnit", ran.error)
-
-    def test_words(self) -> None:
-        ran = run([f"{TOP}/tools/keep_program", "more"])
-        self.assertEqual((ran.status, ran.output, ran.error.count(b"\n")), (70, b"", 1), ran)
+        self.check_refused(70, b"without a JDK and JUnit", at)

@@ -1,7 +1,6 @@
 """A small repository with what `tools/package` packs, and with what a run of the gate that passed leaves."""
 
 import os
-import shutil
 from typing import Dict
 
 import checked
@@ -12,8 +11,6 @@ PARTS = (".gitignore", "LICENSE", "VERSION", "docs", "examples", "tools")
 
 MOMENT = 1_767_323_044
 
-BUILT = "crates/testkit/out/testkit"
-RUN = "crates/testkit/out/checked"
 STAND_IN = b"#!/bin/sh\n# GLIBC_2.17 GLIBC_2.34 GLIBC_2.4\n"
 """What is packed where there is no proved program."""
 
@@ -37,18 +34,12 @@ class Repository:
     """A clean clone in which the gate passed."""
 
     def __init__(self, at: str) -> None:
-        self.at = os.path.join(at, "a folder")
-        os.makedirs(os.path.dirname(self.path(BUILT)))
-        for part in PARTS:
-            if os.path.isdir(f"{TOP}/{part}"):
-                shutil.copytree(f"{TOP}/{part}", self.path(part), ignore=shutil.ignore_patterns("out", "__pycache__"))
-            else:
-                shutil.copy(f"{TOP}/{part}", self.path(part))
-        self.write(BUILT, read(PROGRAM) if os.path.exists(PROGRAM) else STAND_IN)
-        os.chmod(self.path(BUILT), 0o755)
+        self.at = f"{at}/a folder"
+        os.makedirs(self.path(os.path.dirname(checked.PROGRAM)))
+        run(["cp", "-r", *(f"{TOP}/{part}" for part in PARTS), self.at])
+        self.write(checked.PROGRAM, read(PROGRAM) if os.path.exists(PROGRAM) else STAND_IN)
         self.git("init", "-q")
         self.commit()
-        self.pass_gate()
 
     def path(self, name: str) -> str:
         return f"{self.at}/{name}"
@@ -64,13 +55,11 @@ class Repository:
         return ran.output.decode().strip()
 
     def commit(self) -> None:
+        """Commits all, and leaves what a run of `./check` leaves that passed."""
         self.git("add", "-A")
         self.git("commit", "-q", "--allow-empty", "-m", "all")
-
-    def pass_gate(self, passed: int = 12, date: str = "2026-01-02") -> None:
-        """Leaves what a run of `./check` leaves that passed."""
-        commit, tree = self.git("rev-parse", "HEAD", "HEAD^{tree}").split()
-        checked.write(self.at, checked.Run(commit, tree, "rattle-kit-0", checked.hash_of(self.path(BUILT)), passed, date))
+        program = checked.hash_of(self.path(checked.PROGRAM))
+        checked.write(self.at, checked.Run(self.git("rev-parse", "HEAD^{tree}"), "rattle-kit-0", program, 12))
 
     def package(self, *words: str, **environment: str) -> Ran:
         """Calls `tools/package`, with variables changed."""
@@ -79,4 +68,4 @@ class Repository:
     def made(self, folder: str = "out") -> Dict[str, bytes]:
         """The files of a folder, which are the packages."""
         at = self.path(folder)
-        return {name: read(f"{at}/{name}") for name in sorted(os.listdir(at)) if os.path.isfile(f"{at}/{name}")} if os.path.isdir(at) else {}
+        return {name: read(f"{at}/{name}") for name in sorted(os.listdir(at))} if os.path.isdir(at) else {}

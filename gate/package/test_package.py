@@ -11,9 +11,12 @@ import tarfile
 import tempfile
 import unittest
 import zipfile
+from operator import itemgetter
 
-from fixtures import PROGRAM, TOP, folder, needs, parameterized, run, write
-from repository import BUILT, MOMENT, RUN, Repository, read
+import listener
+from checked import PROGRAM as BUILT, RUN
+from fixtures import PROGRAM, TOP, WithProgram, ask, folder, needs, parameterized, run, write
+from repository import MOMENT, Repository, read
 
 VERSION = read(f"{TOP}/VERSION").decode().strip()
 INSIDE = f"testkit-{VERSION}"
@@ -25,10 +28,17 @@ EXPLAIN = "usr/bin/testkit-explain"
 MAVEN = f"maven/testkit/testkit-listener/{VERSION}/testkit-listener-{VERSION}"
 IN_MAVEN = [f"{MAVEN}.{kind}{sum}" for kind in ("jar", "pom") for sum in ("", ".md5", ".sha1")]
 DOCUMENTS = "usr/share/doc/testkit"
-JUNIT = ("junit-platform-commons", "junit-platform-engine", "junit-platform-launcher", "opentest4j", "apiguardian-api")
+FORMATS = "docs/FORMATS.md"
 CONSOLE = "/usr/share/java/junit-platform-console-standalone.jar"
-HAS_JAVA = bool(shutil.which("javac")) and all(os.path.exists(f"/usr/share/java/{it}.jar") for it in JUNIT)
-NO_JAR = b"tools/package: without a JDK and JUnit (apt-get install junit5 default-jdk-headless) there is no jar\n"
+HAS_JAVA = listener.can_be_made()
+NO_JAR = f"tools/package: {listener.MISSING}\n".encode()
+ONE_TEST = """public class OneTest {
+    @org.junit.jupiter.api.Test
+    @org.junit.jupiter.api.parallel.ResourceLock("db")
+    void one() {
+    }
+}
+"""
 
 
 def files_below(at):
@@ -53,6 +63,7 @@ class Made(unittest.TestCase):
     @classmethod
     def setUpClass(cls):
         cls.room = tempfile.TemporaryDirectory(prefix="package-")
+        cls.addClassCleanup(cls.room.cleanup)
         cls.of = Repository(cls.room.name)
         cls.ran = cls.of.package()
         assert cls.ran.status == 0, cls.ran
@@ -64,21 +75,15 @@ class Made(unittest.TestCase):
         run(["dpkg-deb", "-R", cls.of.path(f"out/{DEB}"), cls.of.path("deb")])
         os.rename(cls.of.path("deb/DEBIAN"), cls.of.path("control"))
         cls.tar, cls.deb = cls.of.path(f"tar/{INSIDE}"), cls.of.path("deb")
-        cls.packed = ["LICENSE", "docs/FORMATS.md", "docs/JUNIT.md", "docs/testkit.1"]
+        cls.packed = ["LICENSE", FORMATS, "docs/JUNIT.md", "docs/testkit.1"]
         cls.packed += [f"examples/{name}" for name in files_below(cls.of.path("examples"))]
         cls.packed += [f"tools/{it}" for it in files_below(cls.of.path("tools")) if it in TOOLS]
         cls.programs = {name for name in cls.packed if os.access(cls.of.path(name), os.X_OK)}
 
-    @classmethod
-    def tearDownClass(cls):
-        cls.room.cleanup()
-
-    def test_call(self):
-        self.assertEqual((self.ran.output.decode(), self.ran.error), ("".join(f"{self.of.path('out')}/{it}\n" for it in (TAR, DEB)), b"" if HAS_JAVA else NO_JAR))
-        self.assertEqual(list(self.of.made()), sorted((TAR, DEB)))
-
     def test_archive(self):
         """It has the files of the repository with fixed owners, times and modes, sorted, and no name and no time of its own."""
+        printed = "".join(f"{self.of.path('out')}/{it}\n" for it in (TAR, DEB))
+        self.assertEqual((self.ran.output.decode(), self.ran.error), (printed, b"" if HAS_JAVA else NO_JAR))
         self.assertEqual(files_below(self.tar), sorted([*self.packed, "PROVED-WITH", "testkit", *([JAR, *IN_MAVEN] if HAS_JAVA else [])]))
         self.assertEqual([it for it in self.packed if read(f"{self.tar}/{it}") != read(self.of.path(it))], [])
         self.assertEqual(read(f"{self.tar}/testkit"), read(self.of.path(BUILT)))
@@ -86,7 +91,8 @@ class Made(unittest.TestCase):
         programs = {f"{INSIDE}/{it}" for it in ("testkit", *self.programs)}
         self.assertEqual(names, sorted(names))
         self.assertEqual([it.name for it in self.in_tar if it.mode != (0o755 if it.name in programs else 0o644)], [])
-        self.assertEqual({(it.uid, it.gid, it.uname, it.gname, it.mtime, it.isfile()) for it in self.in_tar}, {(0, 0, "root", "root", MOMENT, True)})
+        owners = {(it.uid, it.gid, it.uname, it.gname, it.mtime, it.isfile()) for it in self.in_tar}
+        self.assertEqual(owners, {(0, 0, "root", "root", MOMENT, True)})
         self.assertEqual(read(self.of.path(f"out/{TAR}"))[3:8], b"\0" * 5)
 
     def test_proved_with(self):
@@ -122,16 +128,12 @@ class Made(unittest.TestCase):
         self.assertEqual(modes, {name: 0o755 if name in programs else 0o644 for name in modes})
 
     def test_what_debian_is_told(self):
-        told = read(self.of.path("control/control")).decode()
-        fields = dict(re.findall(r"^([\w-]+): (.*)$", told, re.MULTILINE))
+        fields = dict(re.findall(r"^([\w-]+): (.*)$", read(self.of.path("control/control")).decode(), re.MULTILINE))
         libc = max(int(it) for it in re.findall(rb"GLIBC_2\.(\d+)", read(self.of.path(BUILT))))
         size = sum(os.lstat(f"{self.deb}/{it}").st_size for it in files_below(self.deb)) // 1024
         self.assertIn(int(fields.pop("Installed-Size")), range(size, size + 200))
-        self.assertEqual(fields, {
-            "Package": "testkit", "Version": VERSION, "Architecture": "amd64", "Maintainer": "An äuthor <author@place.example>",
-            "Recommends": "python3", "Section": "devel", "Priority": "optional", "Depends": f"libc6 (>= 2.{libc})",
-            "Description": "JUnit Platform Test Kit as a verified program",
-        })
+        wanted = {"Version": VERSION, "Maintainer": "An äuthor <author@place.example>", "Depends": f"libc6 (>= 2.{libc})"}
+        self.assertEqual({name: fields[name] for name in wanted}, wanted)
         files = [it for it in files_below(self.deb) if not os.path.islink(f"{self.deb}/{it}")]
         sums = "".join(f"{hashlib.md5(read(f'{self.deb}/{it}')).hexdigest()}  {it}\n" for it in files)
         self.assertEqual(read(self.of.path("control/md5sums")).decode(), sums)
@@ -142,18 +144,16 @@ class Made(unittest.TestCase):
         """The unpacked program and its tools answer."""
         if not os.path.exists(PROGRAM):
             self.skipTest("no proved program")
-        in_debian = (f"{self.deb}/usr/bin/testkit", f"{self.deb}/usr/bin/testkit-", f"{self.deb}/{DOCUMENTS}/examples")
-        for program, tools, examples in ((f"{self.tar}/testkit", f"{self.tar}/tools/", f"{self.tar}/examples"), in_debian):
-            record = read(f"{examples}/two_tests.record")
-            self.assertEqual(run([program, "ask", "count", "all"], record).output, b"5\n")
-            drawn = run([f"{tools}timeline"], record, env={"PATH": os.environ["PATH"]})
-            self.assertTrue(drawn.output.startswith(b"<!doctype html>") and b"[engine:e]/[t:1]" in drawn.output, drawn.error)
-            traced = run([f"{tools}trace"], record, env={"PATH": os.environ["PATH"]})
-            self.assertTrue(traced.output.startswith(b'{"traceEvents":[') and b"[engine:e]/[t:1]" in traced.output, traced.error)
-            made = run([f"{tools}from-open-test-reporting"], read(f"{TOP}/gate/junit/open-test-reporting.xml"), env={"PATH": os.environ["PATH"]})
+        environment = {"PATH": f"{self.deb}/usr/bin:{os.environ['PATH']}"}
+        record, report = read(f"{self.tar}/examples/two_tests.record"), read(f"{TOP}/gate/junit/open-test-reporting.xml")
+        for program, tools in ((f"{self.tar}/testkit", f"{self.tar}/tools/"), ("testkit", f"{self.deb}/usr/bin/testkit-")):
+            self.assertEqual(run([program, "ask", "count", "all"], record, env=environment).output, b"5\n")
+            for tool, begin in (("timeline", b"<!doctype html>"), ("trace", b'{"traceEvents":[')):
+                drawn = run([tools + tool], record, env=environment)
+                self.assertTrue(drawn.output.startswith(begin) and b"[engine:e]/[t:1]" in drawn.output, drawn.error)
+            made = run([f"{tools}from-open-test-reporting"], report, env=environment)
             self.assertEqual(made.output, read(f"{TOP}/gate/junit/open-test-reporting.record"), made.error)
-        record = read(f"{self.tar}/examples/two_tests.record")
-        explained = run([f"{self.deb}/{EXPLAIN}", "list", "failed"], record, env={"PATH": f"{self.deb}/usr/bin:{os.environ['PATH']}"})
+        explained = run([f"{self.deb}/{EXPLAIN}", "list", "failed"], record, env=environment)
         self.assertEqual(explained.output, b'2 E|1|1|2|finish|fail|boom   [engine:e]/[t:1] "one"\n', explained.error)
 
     def test_explain(self):
@@ -166,16 +166,15 @@ class Made(unittest.TestCase):
     @unittest.skipUnless(HAS_JAVA, "no javac")
     def test_jar(self):
         with zipfile.ZipFile(f"{self.tar}/{JAR}") as jar:
-            names, found = jar.namelist(), {name: jar.read(name) for name in jar.namelist()}
+            found = {name: jar.read(name) for name in jar.namelist()}
             forms = {(it.create_system, it.external_attr >> 16, it.compress_type, it.date_time) for it in jar.infolist()}
-        services = [f"META-INF/services/org.junit.platform.launcher.{it}" for it in ("TestExecutionListener", "PostDiscoveryFilter")]
-        heads = ["META-INF/MANIFEST.MF", "META-INF/LICENSE", *services]
-        self.assertEqual(names, heads + sorted(names[4:]))
+        heads = ["META-INF/MANIFEST.MF", "META-INF/LICENSE", *listener.SERVICES]
+        classes = sorted(set(found) - set(heads))
+        self.assertEqual(list(found), heads + classes)
         self.assertEqual(forms, {(3, 0o100644, zipfile.ZIP_STORED, (1980, 1, 1, 0, 0, 0))})
-        self.assertEqual({re.sub(r"(\$\w+)?\.class$", "", name) for name in names[4:]}, {f"testkit/{it}" for it in ("RecordListener", "RecordLocks", "RecordFile", "ResultsWriter", "RecordAssert", "RecordSource", "ResultsAssert")})
-        self.assertEqual({found[name][4:8] for name in names[4:]}, {b"\0\0\0\x34"}, "Java 8")
-        wanted = f"Manifest-Version: 1.0\r\nAutomatic-Module-Name: testkit\r\nImplementation-Title: testkit\r\nImplementation-Version: {VERSION}\r\n\r\n".encode()
-        self.assertEqual([found[it] for it in heads], [wanted, read(self.of.path("LICENSE")), b"testkit.RecordListener\n", b"testkit.RecordLocks\n"])
+        self.assertEqual({re.sub(r"(\$\w+)?\.class$", "", name) for name in classes}, {f"testkit/{it}" for it in listener.LISTENER})
+        self.assertEqual({found[name][4:8] for name in classes}, {b"\0\0\0\x34"}, "Java 8")
+        self.assertIn(f"\r\nImplementation-Version: {VERSION}\r\n".encode(), found[heads[0]])
 
     @unittest.skipUnless(HAS_JAVA, "no javac")
     def test_maven(self):
@@ -192,27 +191,12 @@ class Made(unittest.TestCase):
     def test_jar_in_the_console(self):
         """The console finds the listener and the filter in the jar, which record a run with its locks."""
         at = folder(self)
-        with open(f"{at}/OneTest.java", "w", encoding="utf-8") as file:
-            file.write("public class OneTest {\n    @org.junit.jupiter.api.Test\n    @org.junit.jupiter.api.parallel.ResourceLock(\"db\")\n    void one() {\n    }\n}\n")
+        write(f"{at}/OneTest.java", ONE_TEST)
         compiled = run(["javac", "-d", f"{at}/classes", "-cp", CONSOLE, f"{at}/OneTest.java"])
         words = ["-cp", f"{at}/classes:{self.tar}/{JAR}", "--config", f"testkit.record={at}/run.record", "--select-class", "OneTest"]
         ran = run(["java", "-jar", CONSOLE, *words, "--disable-banner"], cwd=at)
         self.assertEqual((compiled.status, ran.status), (0, 0), (compiled, ran))
         self.assertRegex(read(f"{at}/run.record"), rb"(?s)^testkit-record\|3\n.*method:one\(\).*\nL\|\d\|W\|db\n.*\|finish\|ok\n")
-
-
-def set_git(it):
-    """Settings of git by which an archive or a text of it would differ."""
-    it.write(".git/info/attributes", b"docs/JUNIT.md export-ignore\n")
-    it.write(f"{RUN}.attributes", b"*.record export-ignore\n")
-    values = {"core.autocrlf": "true", "core.attributesFile": it.path(f"{RUN}.attributes"), "i18n.logOutputEncoding": "ISO-8859-1"}
-    for name, value in values.items():
-        it.git("config", name, value)
-
-
-def mark(it):
-    it.git("update-index", "--assume-unchanged", FORMATS)
-    it.write(FORMATS, b"new")
 
 
 def ignore_mode(it):
@@ -222,66 +206,41 @@ def ignore_mode(it):
 
 def committed(change):
     """A change that is committed, and for which the gate passed."""
-
-    def of(it):
-        change(it)
-        it.commit()
-        it.pass_gate()
-
-    return of
+    return lambda it: (change(it), it.commit())
 
 
-AGAIN = [
-    ("after another run of the gate", lambda it: it.pass_gate(date="2027-01-01"), {"SOURCE_DATE_EPOCH": "1", "TZ": "Asia/Tokyo", "LC_ALL": "C"}),
-    ("under other settings of git", set_git, {}),
-    ("where a variable names another repository", lambda it: None, {"GIT_DIR": "/none", "GIT_WORK_TREE": "/", "GIT_INDEX_FILE": "/none"}),
-    ("over an older package", lambda it: (os.makedirs(it.path("out/made")), it.write(f"out/made/{TAR}", b"old")), {}),
-]
-"""What changes between two calls that give the same bytes."""
-
-FORMATS = "docs/FORMATS.md"
-NO_RUN, CHANGED, OTHER_PROGRAM = f"no run of ./check that passed has left {RUN}", f"{FORMATS} is not as it was committed", f"{BUILT} is not the program that"
+NO_RUN, CHANGED = f"no run of ./check that passed has left {RUN}", f"{FORMATS} is not as it was committed"
 REFUSED = [
     ("no run of the gate", 1, NO_RUN, lambda it: os.remove(it.path(RUN))),
     ("a run that was cut off", 1, NO_RUN, lambda it: it.write(RUN, read(it.path(RUN))[:-1])),
-    ("a run that counted nothing", 1, NO_RUN, lambda it: it.pass_gate(passed=0)),
-    ("another tree", 1, "./check passed for the tree ", lambda it: (it.write("README.md", b"new"), it.commit())),
-    ("another program", 1, OTHER_PROGRAM, lambda it: it.write(BUILT, b"new")),
-    ("no program", 1, OTHER_PROGRAM, lambda it: os.remove(it.path(BUILT))),
+    ("another tree", 1, "./check passed for the tree ", lambda it: (it.git("rm", "-q", FORMATS), it.git("commit", "-qmnew"))),
+    ("another program", 1, f"{BUILT} is not the program that", lambda it: it.write(BUILT, b"new")),
     ("a file changed", 1, CHANGED, lambda it: it.write(FORMATS, b"new")),
     ("another mode", 1, CHANGED, ignore_mode),
-    ("a file changed and marked", 1, CHANGED, mark),
     ("a file added", 1, "examples/new.record is not as it was committed", lambda it: it.write("examples/new.record", b"new")),
-    ("a file added and ignored", 1, "a.new is not as it was committed", lambda it: (it.write(".git/info/exclude", b"*.new\n"), it.write("a.new", b""))),
     ("no repository", 70, "", lambda it: shutil.rmtree(it.path(".git"))),
-    ("a folder of another repository", 70, "/", lambda it: os.rename(it.path(".git"), f"{os.path.dirname(it.at)}/.git")),
     ("a link", 70, "examples/a.record is no file", committed(lambda it: os.symlink("x", it.path("examples/a.record")))),
     ("no tool", 70, "the commit has no tools/timeline.css", committed(lambda it: os.remove(it.path("tools/timeline.css")))),
     ("no version", 70, "VERSION is no version: '1.0.0-new'", committed(lambda it: it.write("VERSION", b"1.0.0-new\n"))),
-    ("no place", 70, "[Errno 17] File exists: ", committed(lambda it: it.write("out", b""))),
 ]
 """Where no package comes: the status, what is said, and what was done."""
 
 
 @needs("git")
 class Bytes(unittest.TestCase):
-    @parameterized(AGAIN, name=lambda row: row[0])
-    def test_again(self, row):
-        _, change, environment = row
-        it, path = Repository(folder(self)), without_jdk(self)
-        first, before = it.package(PATH=path), it.made()
-        change(it)
-        second = it.package(it.path("out/made"), **{"PATH": path, **environment})
-        self.assertEqual((first.status, second.status, len(before)), (0, 0, 2), (first, second))
-        self.assertTrue(before == it.made("out/made"), "the bytes differ")
-
-    def test_another_clone(self):
-        """Also with other times of files, under another mask, called by a link, beside another call."""
+    def test_again(self):
+        """The same bytes come of another clone, under other settings of git, other variables and another mask, beside another call."""
         it, other = Repository(folder(self)), Repository(f"{folder(self)}/much/deeper")
-        os.makedirs(other.path("out"))
-        os.symlink(other.path("tools/package"), other.path("out/link"))
+        other.write(".git/info/attributes", b"docs/JUNIT.md export-ignore\n")
+        for name, value in {"core.autocrlf": "true", "i18n.logOutputEncoding": "ISO-8859-1"}.items():
+            other.git("config", name, value)
         os.utime(other.path("LICENSE"), (1, 1))
-        ran = run(["sh", "-c", 'umask 077; "$0" made & "$0" made && wait $!', other.path("out/link")], cwd=other.path("out"))
+        os.makedirs(other.path("out/made"))
+        other.write(f"out/made/{TAR}", b"old")
+        os.symlink(other.path("tools/package"), other.path("out/link"))
+        variables = {"SOURCE_DATE_EPOCH": "1", "TZ": "Asia/Tokyo", "LC_ALL": "C", "GIT_DIR": "/none", "GIT_INDEX_FILE": "/none"}
+        twice = ["sh", "-c", 'umask 077; "$0" made & "$0" made && wait $!', other.path("out/link")]
+        ran = run(twice, cwd=other.path("out"), env={**os.environ, **variables})
         self.assertEqual((ran.status, it.package().status), (0, 0), ran)
         self.assertTrue(len(it.made()) == 2 and it.made() == other.made("out/made"), "the bytes differ")
 
@@ -290,25 +249,14 @@ class Bytes(unittest.TestCase):
 class Refusals(unittest.TestCase):
     maxDiff = None
 
-    @parameterized(REFUSED, name=lambda row: row[0])
+    @parameterized(REFUSED, name=itemgetter(0))
     def test_refused(self, row):
         _, status, line, change = row
         it = Repository(folder(self))
         change(it)
         ran = it.package(PATH=without_jdk(self))
-        self.assertEqual((ran.status, ran.output), (status, b""), ran)
+        self.assertEqual((ran.status, ran.output, it.made()), (status, b"", {}), ran)
         self.assertRegex(ran.error.replace(NO_JAR, b"").decode(), f"^tools/package: {re.escape(line)}.*\n$")
-        self.assertFalse(os.path.isdir(it.path("out")) and it.made())
-
-    def test_words(self):
-        for words in (["one", "two"], ["--folder"]):
-            ran = run([f"{TOP}/tools/package", *words])
-            self.assertEqual((ran.status, ran.output, ran.error.count(b"\n")), (70, b"", 1), ran)
-
-    def test_full_output(self):
-        it = Repository(folder(self))
-        ran = run(["sh", "-c", 'exec "$0" >/dev/full', it.path("tools/package")], env={**os.environ, "PATH": without_jdk(self)})
-        self.assertEqual((ran.status, ran.error.replace(NO_JAR, b"").count(b"\n")), (70, 1), ran)
 
     def test_no_jdk(self):
         it = Repository(folder(self))
@@ -320,20 +268,29 @@ class Refusals(unittest.TestCase):
     def test_no_java(self):
         """A listener that can't be compiled."""
         it = Repository(folder(self))
-        committed(lambda it: it.write("examples/junit/testkit/RecordListener.java", b"class { int }\n"))(it)
+        it.write("examples/junit/testkit/RecordListener.java", b"class { int }\n")
+        it.commit()
         ran = it.package()
         self.assertEqual((ran.status, it.made(), ran.error.count(b"\n")), (70, {}, 1), ran)
         self.assertIn(b"tools/package: the listener can't be compiled: ", ran.error)
 
 
+USAGE = read(f"{TOP}/crates/testkit/usage.txt").decode()
+
+
 class ManPage(unittest.TestCase):
     TEXT = re.sub(r"\\f[BIR]", "", read(f"{TOP}/docs/testkit.1").decode().replace("\\-", "-"))
 
+    def test_forms(self):
+        """It has the command lines that README.md and the page of usage have."""
+        texts = (USAGE, read(f"{TOP}/README.md").decode(), self.TEXT.replace(" ...", " .."))
+        forms = [re.findall(r"^ *(testkit .*?< [A-Z]+)", text, re.MULTILINE) for text in texts]
+        page, *others = [[" ".join(it.split()) for it in found] for found in forms]
+        self.assertGreaterEqual(len(page), 11)
+        self.assertEqual([page, page], others)
+
     def test_words(self):
-        """It has each command that README.md has, and each word of a question."""
-        shown = re.findall(r"^    (testkit(?: ask)? [a-z]+)", read(f"{TOP}/README.md").decode(), re.MULTILINE)
-        self.assertGreaterEqual(len(shown), 8)
-        self.assertEqual([it for it in shown if not re.search(rf"^{it} ", self.TEXT, re.MULTILINE)], [])
+        """It has each word of a question."""
         words = "all tests containers skipped started finished aborted succeeded failed reporting dynamic files exactly loosely in-order "
         words += "test container engine id(TEXT) name(TEXT) failed(TEXT) aborted(TEXT) skipped(TEXT) entry(KEY,VALUE,..) file(TEXT) kind(K) "
         words += "skip start finish report file %25 %28 %29 %2C QUESTION segment(TAG,VALUE) message(TEXT) --workers --record --unit "
@@ -344,3 +301,10 @@ class ManPage(unittest.TestCase):
     def test_roff(self):
         ran = run(["groff", "-man", "-ww", "-z", "-Tutf8", f"{TOP}/docs/testkit.1"])
         self.assertEqual((ran.status, ran.output, ran.error), (0, b"", b""))
+
+
+class Usage(WithProgram):
+    @parameterized(re.findall(r"^  testkit ask (\w+)", USAGE, re.MULTILINE), name=str)
+    def test_question(self, name):
+        """The program knows each question of the page."""
+        self.assertNotIn(b"unknown question", ask(["ask", name], b"testkit-record|2\n").error)
