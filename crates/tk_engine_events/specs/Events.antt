@@ -1,24 +1,20 @@
 -- The events of each kind.
-use Rattle.std.specs.Prelude.{ℕ, List, Option}
+use Rattle.std.specs.Prelude.{ℕ, List}
 use Rattle.tk_ids.specs.declared.descriptors.Descriptor.{Descriptor}
 use Rattle.tk_events.specs.declared.events.Event.{Event}
 use Rattle.tk_events.specs.declared.kinds.Kind.TheVariants as kinds
+use Rattle.tk_events.specs.declared.outcomes.Outcome.{Outcome}
 use Rattle.tk_events.specs.declared.payloads.Payload.TheVariants as payloads
-use Rattle.tk_events.specs.declared.statuses.Status.{Status}
 
 -- the descriptor with the key started
 abbrev pub started : ℕ → ℕ → Event
 started key stamp =
     record { kind = kinds.Started; key = key; stamp = stamp; payload = payloads.Nothing }
 
--- the descriptor with the key finished with this status, and with a message where there is one
-abbrev pub finished : ℕ → ℕ → Status → Option (List ℕ) → Event
-finished key stamp status message = record {
-  kind = kinds.Finished;
-  key = key;
-  stamp = stamp;
-  payload = payloads.Outcome status message;
-}
+-- the descriptor with the key finished with this outcome
+abbrev pub finished : ℕ → ℕ → Outcome → Event
+finished key stamp outcome =
+    record { kind = kinds.Finished; key = key; stamp = stamp; payload = payloads.Outcome outcome }
 
 -- the descriptor with the key is skipped for this reason
 abbrev pub skipped : ℕ → ℕ → List ℕ → Event

@@ -7,7 +7,7 @@ ghost use Rattle.tk_engine_events.specs.Emitted.{Emitted, Registered, IsOfSink};
 use crate::events::{file_published, finished, reported, skipped, started};
 use std::sync::Wait;
 use tk_engine_execute::{Sink, UnitFault};
-use tk_events::{Event, Pairs, Status};
+use tk_events::{Event, Outcome, Pairs};
 use tk_ids::{DType, Segment, Text};
 
 /// Emits an event of a static descriptor, or of one that the sink registered.
@@ -39,7 +39,7 @@ pub fn start<R: Wait, S: Sink>(rt: &R, key: u32, stamp: u64, sink: &mut S) -> Re
     emit(rt, started(key, stamp), sink)
 }
 
-/// Emits that a descriptor finished, with a message where there is one. JUnit: `executionFinished`.
+/// Emits that a descriptor finished with this outcome. JUnit: `executionFinished`.
 ///
 /// # Errors
 /// As [`emit`].
@@ -47,17 +47,16 @@ pub fn finish<R: Wait, S: Sink>(
     rt: &R,
     key: u32,
     stamp: u64,
-    status: Status,
-    message: Option<Text>,
+    outcome: Outcome,
     sink: &mut S,
 ) -> Result<(), UnitFault>
     ensures ok { OnOk result
-        (Emitted (S.view sink.old) (S.view sink.new) (finished key stamp status message ∷ [])) }
+        (Emitted (S.view sink.old) (S.view sink.new) (finished key stamp outcome ∷ [])) }
     ensures err { OnErr result (S.view sink.new ≡ S.view sink.old) }
     ensures fault { IfErr result IsOfSink }
     ensures grew { Grew (S.view sink.old) (S.view sink.new) }
 {
-    emit(rt, finished(key, stamp, status, message), sink)
+    emit(rt, finished(key, stamp, outcome), sink)
 }
 
 /// Emits that a descriptor is skipped, and why. JUnit: `executionSkipped`.

@@ -1,18 +1,18 @@
 //! What a unit emits of which nothing is to be proved.
 #![tactic(auto, using(crate::proofs::LentSinks::same_at_start, crate::proofs::LentSinks::extends_at_start, crate::proofs::LentSinks::same_after, crate::proofs::LentSinks::extends_after, crate::proofs::LentSinks::same_registered, crate::proofs::LentSinks::extends_registered))]
 
-ghost use Rattle.std.specs.Prelude.{◌≡◌, ◌∷◌, [], Some, None, IfOk, OnOk, OnErr};
+ghost use Rattle.std.specs.Prelude.{◌≡◌, ◌∷◌, [], Some, IfOk, OnOk, OnErr};
 ghost use Rattle.tk_engine_events.specs.Emitters.{HasRegistered, after_event, request, segment_view};
 ghost use Rattle.tk_engine_events.specs.Events.{file_published, finished, reported, skipped, started};
 ghost use Rattle.tk_engine_execute.specs.Engines.{Extends, IsSameSender};
-ghost use Rattle.tk_events.specs.declared.statuses.Status.TheVariants.{Aborted, Failed, Successful};
+ghost use Rattle.tk_events.specs.declared.outcomes.Outcome.TheVariants.{Aborted, Failed, Successful};
 
 use crate::events::{file_published, finished, reported, skipped, started};
 use std::alloc::Global;
 use std::marker::{Brand, Model, PhantomData};
 use std::sync::Wait;
 use tk_engine_execute::{Sink, UnitFault};
-use tk_events::{Event, Pairs, Status};
+use tk_events::{Event, Outcome, Pairs};
 use tk_ids::{DType, Segment, Text};
 
 /// Which sink a proof speaks of: as it was when the unit began, and the name of the reference to it.
@@ -239,11 +239,11 @@ impl<'r, 'a, C: UnitContext> Emitter<'r, 'a, C> {
     /// As [`Emitter::start`].
     pub fn succeed(&mut self, key: u32) -> Result<(), UnitFault>
         ensures ok { OnOk result (self.new.events
-            ≡ after_event self.old.events (finished key self.old.events.stamp Successful None)) }
+            ≡ after_event self.old.events (finished key self.old.events.stamp Successful)) }
         ensures err { OnErr result (self.new.events ≡ self.old.events) }
     {
         let stamp = self.events.stamp();
-        self.emit(finished(key, stamp, Status::Successful, None))
+        self.emit(finished(key, stamp, Outcome::Successful))
     }
 
     /// Emits that a descriptor failed, with this message.
@@ -253,12 +253,12 @@ impl<'r, 'a, C: UnitContext> Emitter<'r, 'a, C> {
     pub fn fail(&mut self, key: u32, message: &str) -> Result<(), UnitFault>
         ensures ok { OnOk result (self.new.events
             ≡ after_event self.old.events
-            (finished key self.old.events.stamp Failed (Some message.now))) }
+            (finished key self.old.events.stamp (Failed (Some message.now)))) }
         ensures err { OnErr result (self.new.events ≡ self.old.events) }
     {
-        let message = Text::copy(self.alloc, message)?;
+        let outcome = Outcome::failed(self.alloc, message)?;
         let stamp = self.events.stamp();
-        self.emit(finished(key, stamp, Status::Failed, Some(message)))
+        self.emit(finished(key, stamp, outcome))
     }
 
     /// Emits that a descriptor was aborted, with this message.
@@ -268,12 +268,12 @@ impl<'r, 'a, C: UnitContext> Emitter<'r, 'a, C> {
     pub fn abort(&mut self, key: u32, message: &str) -> Result<(), UnitFault>
         ensures ok { OnOk result (self.new.events
             ≡ after_event self.old.events
-            (finished key self.old.events.stamp Aborted (Some message.now))) }
+            (finished key self.old.events.stamp (Aborted (Some message.now)))) }
         ensures err { OnErr result (self.new.events ≡ self.old.events) }
     {
-        let message = Text::copy(self.alloc, message)?;
+        let outcome = Outcome::aborted(self.alloc, message)?;
         let stamp = self.events.stamp();
-        self.emit(finished(key, stamp, Status::Aborted, Some(message)))
+        self.emit(finished(key, stamp, outcome))
     }
 
     /// Emits that a descriptor is skipped, and why. JUnit: `executionSkipped`.

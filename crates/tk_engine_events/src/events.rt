@@ -2,7 +2,7 @@
 ghost use Rattle.std.specs.Prelude.{◌≡◌};
 ghost use Rattle.tk_engine_events.specs.Events.{file_published, finished, reported, skipped, started};
 
-use tk_events::{Event, Kind, Pairs, Payload, Status};
+use tk_events::{Event, Kind, Outcome, Pairs, Payload};
 use tk_ids::Text;
 
 /// Makes the event that the descriptor with this key started.
@@ -17,17 +17,15 @@ pub fn started(key: u32, stamp: u64) -> Event
     }
 }
 
-/// Makes the event that a descriptor finished with this status.
-///
-/// It is lawful where a `Successful` one has no message.
-pub fn finished(key: u32, stamp: u64, status: Status, message: Option<Text>) -> Event
-    ensures { result ≡ finished key stamp status message }
+/// Makes the event that a descriptor finished with this outcome.
+pub fn finished(key: u32, stamp: u64, outcome: Outcome) -> Event
+    ensures { result ≡ finished key stamp outcome }
 {
     Event {
         kind: Kind::Finished,
         key,
         stamp,
-        payload: Payload::Outcome(status, message),
+        payload: Payload::Outcome(outcome),
     }
 }
 

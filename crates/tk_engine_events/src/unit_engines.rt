@@ -12,7 +12,7 @@ use std::alloc::{AllocError, Global};
 use std::marker::Brand;
 use std::sync::{Arc, Wait};
 use tk_engine_execute::{Engine, MAX_UNITS, Sink, UnitFault};
-use tk_events::{Event, Status};
+use tk_events::{Event, Outcome};
 use tk_ids::{DType, LockFault, LockMode, Segment, Table, TableFault};
 use tk_locks::{BookSeat, Need};
 
@@ -195,10 +195,10 @@ fn run_unit<'a, R: Wait, S: Sink, K: SinkRun, U: Units>(
 }
 
 impl<U: Units + Sync> Engine for UnitEngine<U> {
-    ghost use Rattle.std.specs.Prelude.{◌∷◌, [], None, get_or};
+    ghost use Rattle.std.specs.Prelude.{◌∷◌, [], get_or};
     ghost use Rattle.tk_engine_events.specs.Emitters.{need_at};
     ghost use Rattle.tk_engine_events.specs.Events.{finished, started};
-    ghost use Rattle.tk_events.specs.declared.statuses.Status.TheVariants.{Successful};
+    ghost use Rattle.tk_events.specs.declared.outcomes.Outcome.TheVariants.{Successful};
 
     ghost table = { λ e. arc_value e.table };
 
@@ -206,7 +206,7 @@ impl<U: Units + Sync> Engine for UnitEngine<U> {
 
     ghost before = { λ e. started 0 0 ∷ [] };
 
-    ghost after = { λ e. finished 0 0 Successful None ∷ [] };
+    ghost after = { λ e. finished 0 0 Successful ∷ [] };
 
     ghost need = { λ e u. need_at e.needs.items u };
 
@@ -229,7 +229,7 @@ impl<U: Units + Sync> Engine for UnitEngine<U> {
     fn after(&self, alloc: Global) -> Result<Vec<Event>, AllocError> {
         // For the proof: the root is there.
         let _table = &self.table;
-        Ok(vec![in alloc; finished(0, 0, Status::Successful, None)]?)
+        Ok(vec![in alloc; finished(0, 0, Outcome::Successful)]?)
     }
 
     fn need(&self, unit: u32) -> Need {
