@@ -152,6 +152,53 @@ module _ (all : List NumberedNode) (q : List SegmentView → Bool) where
     cut_below b (more t f) (inl c) = cut-append (parts b t) (parts_below b f) (cut b t (chain_none t c.0)) (cut_below b f c.1) (inl (nothing b t c.0))
     cut_below b (more t f) (inr c) = cut-append (parts b t) (parts_below b f) (cut b t c.0) (cut_below b f (chain_none_below f c.1)) (inr (nothing_below b f c.1))
 
+  -- what the parts show around the units
+  abbrev pub around_units : List Part → List Label
+  around_units ps = shown all q (flat_map begin_moves ps) ++ shown all q (flat_map end_moves ps)
+
+  none_around : (ps : List Part) → ShowsInTurn ps → shown all q (flat_map moves_of ps) ≡ [] → around_units ps ≡ []
+  none_around ps h n =
+      let begins = shown all q (flat_map begin_moves ps) in
+      let units = shown all q (flat_map unit_moves ps) in
+      let ends = shown all q (flat_map end_moves ps) in
+      let none : begins ++ (units ++ ends) ≡ [] = sym h ∙ n in
+      ap₂ (λ a b. a ++ b) (nil_left begins (units ++ ends) none) (nil_right units ends (nil_right begins (units ++ ends) none))
+
+  pub around_none : (b : Bool) (t : Tree) → HasNone all q (flat t) → around_units (parts b t) ≡ []
+  around_none b t h = none_around (parts b t) (cut b t (chain_none t h)) (nothing b t h)
+
+  pub around_none_below : (b : Bool) (f : Forest) → HasNone all q (flats f) → around_units (parts_below b f) ≡ []
+  around_none_below b f h = none_around (parts_below b f) (cut_below b f (chain_none_below f h)) (nothing_below b f h)
+
+  pub around_first : (xs ys : List Part) → around_units ys ≡ [] → around_units (xs ++ ys) ≡ around_units xs
+  around_first xs ys none =
+      let first = shown all q (flat_map begin_moves ys) in
+      let last = shown all q (flat_map end_moves ys) in
+      ap₂ (λ a b. a ++ b)
+      (shown_parts begin_moves xs ys ∙ (ap (λ l. shown all q (flat_map begin_moves xs) ++ l) (nil_left first last none) ∙ append-nil (shown all q (flat_map begin_moves xs))))
+      (shown_parts end_moves xs ys ∙ (ap (λ l. shown all q (flat_map end_moves xs) ++ l) (nil_right first last none) ∙ append-nil (shown all q (flat_map end_moves xs))))
+
+  pub around_second : (xs ys : List Part) → around_units xs ≡ [] → around_units (xs ++ ys) ≡ around_units ys
+  around_second xs ys none =
+      let first = shown all q (flat_map begin_moves xs) in
+      let last = shown all q (flat_map end_moves xs) in
+      ap₂ (λ a b. a ++ b)
+      (shown_parts begin_moves xs ys ∙ ap (λ l. l ++ shown all q (flat_map begin_moves ys)) (nil_left first last none))
+      (shown_parts end_moves xs ys ∙ ap (λ l. l ++ shown all q (flat_map end_moves ys)) (nil_right first last none))
+
+  -- a spine node opens before what its parts show, and finishes after that
+  pub around_open : (n : Node) (k : ℕ) (ps : List Part)
+      → around_units (spine_begins n k ∷ (ps ++ spine_ends n k ∷ [])) ≡ shown all q (opening n k) ++ (around_units ps ++ shown all q (move k Finish ∷ []))
+  around_open n k ps =
+      let o = shown all q (opening n k) in
+      let b = shown all q (flat_map begin_moves ps) in
+      let e = shown all q (flat_map end_moves ps) in
+      let last = shown all q (move k Finish ∷ []) in
+      ap₂ (λ x y. x ++ y)
+      (shown-append all q (opening n k) (flat_map begin_moves (ps ++ spine_ends n k ∷ [])) ∙ ap (λ l. o ++ l) (shown_parts begin_moves ps (spine_ends n k ∷ []) ∙ append-nil b))
+      (shown_parts end_moves ps (spine_ends n k ∷ []))
+      ∙ (append_assoc o b (e ++ last) ∙ ap (λ l. o ++ l) (sym (append_assoc b e last)))
+
   -- ---- at most one unit has nodes of a chain
 
   abbrev pub shows : Piece → List Label

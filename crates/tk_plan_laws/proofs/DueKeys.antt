@@ -22,8 +22,8 @@ use Rattle.tk_report_text.proofs.Ids.{same_decides}
 use Rattle.tk_plan_laws.specs.Listening.{finishes, is_of, skips, starts}
 use Rattle.tk_plan_laws.specs.Scripts.{IsRunOf, id_at}
 use Rattle.tk_plan_laws.proofs.RecordIds.{label_at, labelled, last_segment, ran_of}
-use Rattle.tk_plan_laws.proofs.RunLifecycle.{run_described, run_listens, run_one_key}
-use Rattle.tk_plan_laws.proofs.RunLabels.{same_one}
+use Rattle.tk_plan_laws.proofs.NodeLifecycle.{are_described, only_key, relied_on}
+use Rattle.tk_plan_laws.proofs.NodeLabels.{ShowsNodes, run_shows, same_one}
 use Rattle.tk_plan_laws.proofs.LifecycleToListener.{finish_or_skip, finish_ran, skip_ran, skipped_alone}
 use Rattle.tk_plan_laws.proofs.Lists.{Each, each-append, each_at, each_weaker}
 use Rattle.tk_plan_laws.proofs.MoveLabels.{AreBuilt, IsBuilt, Move, act_label, move_label, moves_in, plan_labels, publications}
@@ -163,6 +163,9 @@ root_alone (x ∷ a) some s rest one =
 -- ---- runs
 
 module _ (all : List NumberedNode) (table : List Descriptor) (workers : ℕ) (r : Recorded) (plan : IsPlanTree all table) (run : IsRunOf all table workers r) where
+  shows : ShowsNodes all table r
+  shows = run_shows all table workers r plan run
+
   same_any : (i : List SegmentView) (p : Label → Bool) → Only p (is_of i) → list_any p (labels r) ≡ list_any p (plan_labels all)
   same_any i p only = any_kept (is_of i) p only (labels r) ∙ ap (list_any p) (same_one all table workers r plan run i) ∙ sym (any_kept (is_of i) p only (plan_labels all))
 
@@ -190,8 +193,8 @@ module _ (all : List NumberedNode) (table : List Descriptor) (workers : ℕ) (r 
         let e = x.entry in
         let begun : begins own (label (name r) e.event) ≡ true = ap (begins own) x.label_is ∙ found.passes in
         let named : name r e.event.key ≡ own = (same_decides (name r e.event.key) own).0 (begin_of own (label (name r) e.event) begun) in
-        let its_id = subst (HasId r e.event.key) named (run_described all table workers r plan run found.position e x.stands) in
-        let same = run_one_key all table workers r plan run own e.event.key key its_id (let k : HasId r key own = record { descriptor = h.descriptor; described = static_desc r key h.descriptor h.static; id_is = refl } in k) in
+        let its_id = subst (HasId r e.event.key) named (are_described all table r plan shows found.position e x.stands) in
+        let same = only_key all table r plan shows own e.event.key key its_id (let k : HasId r key own = record { descriptor = h.descriptor; described = static_desc r key h.descriptor h.static; id_is = refl } in k) in
         ⊎_elim {C = ⊥}
         (λ (a : starts own (label (name r) e.event) ≡ true).
         h.no_turn.unstarted found.position e x.stands same (and_parts (is_of own (label (name r) e.event)) _ a).1)
@@ -216,11 +219,11 @@ module _ (all : List NumberedNode) (table : List Descriptor) (workers : ℕ) (r 
           ⊎_elim {C = ⊥}
           (λ (same : parent_of own ≡ u.above).
           let ran = filter (ran_of u.above) (labels r) in
-          skipped_alone Finished finish_or_skip u.above ran ((run_listens all table workers r plan run).once u.above)
+          skipped_alone Finished finish_or_skip u.above ran ((relied_on all table r plan shows).once u.above)
           (sym (any_kept (ran_of u.above) (finishes u.above) (finish_ran u.above) (labels r)) ∙ parent_finish u.above (sym same))
           (sym (any_kept (ran_of u.above) (skips u.above) (skip_ran u.above) (labels r)) ∙ u.skipped))
           (λ (b : IsParentBelow u.above (parent_of own)).
-          let none = (run_listens all table workers r plan run).skipped u.above b.s b.more u.some u.skipped in
+          let none = (relied_on all table r plan shows).skipped u.above b.s b.more u.some u.skipped in
           let e = s.succeeds.event in
           true≢false (sym (any_from (is_of (u.above ++ b.s ∷ b.more)) (labels r) s.succeeds.position (label (name r) e.event) (label_at r s.succeeds.position e s.succeeds.stands)
           ((same_decides (name r e.event.key) (u.above ++ b.s ∷ b.more)).1 (parent_name ∙ b.id_is))) ∙ none))

@@ -15,9 +15,9 @@ pub mod RunChains
 pub mod SameReports
 pub mod Scripts
 pub mod RecordIds
-pub mod RunLabels
+pub mod NodeLabels
 pub mod LifecycleToListener
-pub mod RunLifecycle
+pub mod NodeLifecycle
 pub mod DueKeys
 pub mod Turns
 pub mod Stamps

@@ -81,13 +81,13 @@ both_zero a b c e x y = omega (arith, e, x, y)
 
 module _ (all : List NumberedNode) where
   -- how many of the nodes have that id
-  abbrev with_id : List SegmentView → List NumberedNode → ℕ
+  abbrev pub with_id : List SegmentView → List NumberedNode → ℕ
   with_id i ps = count_ids all (λ j. same_id j i) ps
 
-  both_ids : (i : List SegmentView) (xs ys : List NumberedNode) → with_id i (xs ++ ys) ≡ with_id i xs + with_id i ys
+  pub both_ids : (i : List SegmentView) (xs ys : List NumberedNode) → with_id i (xs ++ ys) ≡ with_id i xs + with_id i ys
   both_ids i xs ys = count-append (λ (p : NumberedNode). same_id (id_at all p.number) i) xs ys
 
-  pair_none : (p c : List SegmentView) (ps : List NumberedNode) → with_id p ps ≡ 0 → with_id c ps ≡ 0 → HasNone all (either p c) ps
+  pub pair_none : (p c : List SegmentView) (ps : List NumberedNode) → with_id p ps ≡ 0 → with_id c ps ≡ 0 → HasNone all (either p c) ps
   pair_none p c [] h g = refl
   pair_none p c (x ∷ xs) h g =
       let first = none_head all (λ j. same_id j p) x.number (with_id p xs) h in
@@ -100,13 +100,13 @@ module _ (all : List NumberedNode) where
 
   module _ (p : List SegmentView) (s : SegmentView) where
     mutual
-      parent_in : (above : List SegmentView) (t : Tree) → IsBuilt all above t → above ≢ p → with_id p (flat t) ≡ 0 → with_id (p ++ s ∷ []) (flat t) ≡ 0
+      pub parent_in : (above : List SegmentView) (t : Tree) → IsBuilt all above t → above ≢ p → with_id p (flat t) ≡ 0 → with_id (p ++ s ∷ []) (flat t) ≡ 0
       parent_in above (tree n k f) b d z =
           let h = not_eq (id_at all k) (p ++ s ∷ []) (λ e. d (snoc_same above p n.segment s (sym b.0 ∙ e))) in
           let g = none_head all (λ j. same_id j p) k (with_id p (flats f)) z in
           rw h (parent_in_below (id_at all k) f b.1 (eq_not (id_at all k) p g.0) g.1)
 
-      parent_in_below : (above : List SegmentView) (f : Forest) → AreBuilt all above f → above ≢ p → with_id p (flats f) ≡ 0 → with_id (p ++ s ∷ []) (flats f) ≡ 0
+      pub parent_in_below : (above : List SegmentView) (f : Forest) → AreBuilt all above f → above ≢ p → with_id p (flats f) ≡ 0 → with_id (p ++ s ∷ []) (flats f) ≡ 0
       parent_in_below above no_trees b d z = refl
       parent_in_below above (more t f) b d z =
           let e = both_ids p (flat t) (flats f) in
@@ -143,13 +143,13 @@ abbrev pub around : List NumberedNode → ℕ → Node → ℕ → List Label �
 around all parent n k below = if n.is_static then run_around all n k below else act_label all k (Register parent) ∷ run_around all n k below
 
 module _ (all : List NumberedNode) (q : List SegmentView → Bool) where
-  shown_yes : (k : ℕ) (a : Act) (ms : List Move) (l : List Label) → q (id_at all k) ≡ true → shown all q ms ≡ l → shown all q (move k a ∷ ms) ≡ act_label all k a ∷ l
+  pub shown_yes : (k : ℕ) (a : Act) (ms : List Move) (l : List Label) → q (id_at all k) ≡ true → shown all q ms ≡ l → shown all q (move k a ∷ ms) ≡ act_label all k a ∷ l
   shown_yes k a ms l h e = rw h (ap (λ m. act_label all k a ∷ m) e)
 
   shown_past : (k : ℕ) (a : Act) (ms : List Move) → q (id_at all k) ≡ false → shown all q (move k a ∷ ms) ≡ shown all q ms
   shown_past k a ms h = rw h refl
 
-  own_opening : (n : Node) (k : ℕ) → q (id_at all k) ≡ true → shown all q (opening n k) ≡ map (move_label all) (opening n k)
+  pub own_opening : (n : Node) (k : ℕ) → q (id_at all k) ≡ true → shown all q (opening n k) ≡ map (move_label all) (opening n k)
   own_opening n k h =
       shown_yes k Start (publications n k) (map (move_label all) (publications n k)) h
       (of_publications (λ ms. shown all q ms ≡ map (move_label all) ms) n k (λ j ms g. shown_yes k (Report j) ms (map (move_label all) ms) h g) (λ j ms g. shown_yes k (File j) ms (map (move_label all) ms) h g) refl)
@@ -201,11 +201,11 @@ module _ (all : List NumberedNode) (P : NumberedNode → Type 0) (p : List Segme
   abbrev pub IsOwn : List Label → Type 0
   IsOwn l = (l ≡ []) ⊎ IsOfNode l
 
-  none_below : (k : ℕ) (f : Forest) → with_id all p (flats f) ≡ 0 → list_any (is_of p) (shown all pair (moves_below k f)) ≡ false
-  none_below k f z =
-      let ls = map (move_label all) (moves_below k f) in
-      sym (any_kept (λ (l : Label). pair l.id) (is_of p) (λ l h. or_left (same_id l.id p) _ h) ls)
-      ∙ (any_kept (is_of p) (is_of p) (λ l h. h) ls ∙ ap (list_any (is_of p)) (shown_none_below all (λ j. same_id j p) k f z))
+  -- the id is among these labels where it is among its own
+  pub same_any : (ms : List Move) → list_any (is_of p) (shown all pair ms) ≡ list_any (is_of p) (shown all (λ j. same_id j p) ms)
+  same_any ms =
+      let ls = map (move_label all) ms in
+      sym (any_kept (λ (l : Label). pair l.id) (is_of p) (λ l h. or_left (same_id l.id p) _ h) ls) ∙ any_kept (is_of p) (is_of p) (λ l h. h) ls
 
   mutual
     own_law : (above : List SegmentView) (parent : ℕ) (t : Tree) → IsBuilt all above t → above ≢ p → Each P (flat t) → with_id all p (flat t) ≤ 1 → IsOwn (shown all pair (moves_in parent t))
@@ -215,7 +215,7 @@ module _ (all : List NumberedNode) (P : NumberedNode → Type 0) (p : List Segme
           parent = parent;
           below = shown all pair (moves_below k f);
           is = y;
-          apart = none_below k f (none_left (same_id (id_at all k) p) (with_id all p (flats f)) y h);
+          apart = same_any (moves_below k f) ∙ ap (list_any (is_of p)) (shown_none_below all (λ j. same_id j p) k f (none_left (same_id (id_at all k) p) (with_id all p (flats f)) y h));
           labels = own_tree all pair parent n k f (or_left (same_id (id_at all k) p) _ y);
           holds = a.0;
         }))

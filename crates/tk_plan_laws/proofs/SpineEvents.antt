@@ -1,6 +1,6 @@
 -- The events around the units: whose they are, and which.
 use Rattle.std.proofs.Common.{◌≡◌, ◌≢◌, ℕ, ◌+◌, Bool, cond, true, false, ◌||◌, ◌==◌, List, [], ◌∷◌, ◌++◌, All, length, flat_map}
-use Rattle.std.proofs.Common.{slice_index_or, refl, sym, ap, ◌∙◌, subst, eq-eqb}
+use Rattle.std.proofs.Common.{slice_index_or, refl, ap, ◌∙◌, subst, eq-eqb}
 use Rattle.std.proofs.lemmas.Bool.{and_from, not_from_false, or_from, or_left, or_right}
 use Rattle.std.proofs.lemmas.List.{map-append}
 use Rattle.std.proofs.lemmas.List.Elements.{All-nil, All-cons, All-head, All-tail, All-append}
@@ -25,7 +25,6 @@ use Rattle.tk_plan.specs.Events.{event, published, entry_event, file_event, open
 use Rattle.tk_plan.specs.Cutting.{Part, spine_begins, whole_unit, spine_ends, parts, parts_below, from_each, begin_events, end_events, moves_of, on_spine, spine_numbers, spine_of, before_of, after_of}
 use Rattle.tk_plan.specs.Numbers.{IsNumbered}
 use Rattle.tk_plan.specs.Planned.{IsPlanned}
-use Rattle.tk_plan.proofs.Cuts.{from_each-append}
 use Rattle.tk_plan.proofs.ListParts.{all_prefix, all_back}
 use Rattle.tk_plan.proofs.SpineEmissions.{before_static, after_static}
 use Rattle.tk_plan_laws.specs.Spines.{IsOnSpine, IsSpineEvent}
@@ -181,55 +180,3 @@ no_finish_before nodes key = begins_go_on key 0 (parts_below true (forest nodes)
 -- each node on the spine runs after the events before the units
 pub spine_runs : (nodes : List NumberedNode) (key : ℕ) → IsOnSpine nodes key → runs key (entries_by 0 (before_of (forest nodes))) ≡ true
 spine_runs nodes key on = and_from _ _ (starts_before nodes key on) (not_from_false _ (no_finish_before nodes key))
-
--- ---- the finishes, after the units
-
--- the key is finished by the parts, wherever they stand
-abbrev Ends : List Part → ℕ → Type 0
-Ends ps key = (i : ℕ) → has_event Finished key (entries_by 0 (from_each end_events i ps)) ≡ true
-
--- what some parts finish they finish among others
-ends_left : (xs ys : List Part) (key : ℕ) → Ends xs key → Ends (xs ++ ys) key
-ends_left xs ys key h i =
-    ap (λ es. has_event Finished key (entries_by 0 es)) (from_each-append end_events i xs ys)
-    ∙ has_left Finished key (from_each end_events i xs) (from_each end_events (i + length (flat_map moves_of xs)) ys) (h i)
-
-ends_right : (xs ys : List Part) (key : ℕ) → Ends ys key → Ends (xs ++ ys) key
-ends_right xs ys key h i =
-    ap (λ es. has_event Finished key (entries_by 0 es)) (from_each-append end_events i xs ys)
-    ∙ has_right Finished key (from_each end_events i xs) (from_each end_events (i + length (flat_map moves_of xs)) ys) (h (i + length (flat_map moves_of xs)))
-
--- a spine node's end finishes it
-ends_own : (n : Node) (k : ℕ) → Ends (spine_ends n k ∷ []) k
-ends_own n k i = or_left (k == k) false (eq-eqb k k refl)
-
--- by whether a node stands on the spine
-ends_by : (b : Bool) (n : Node) (k : ℕ) (f : Forest) → All (Ends (parts_below false f)) (flat_map spine_numbers (parts_below false f))
-    → All (Ends (cond b (spine_begins n k ∷ (parts_below false f ++ spine_ends n k ∷ [])) (whole_unit (tree n k f) ∷ [])))
-    (flat_map spine_numbers (cond b (spine_begins n k ∷ (parts_below false f ++ spine_ends n k ∷ [])) (whole_unit (tree n k f) ∷ [])))
-ends_by false n k f below = All-nil (Ends (whole_unit (tree n k f) ∷ []))
-ends_by true n k f below =
-    let whole : List Part = spine_begins n k ∷ (parts_below false f ++ spine_ends n k ∷ []) in
-    All-cons (Ends whole) k _ (ends_right (spine_begins n k ∷ parts_below false f) (spine_ends n k ∷ []) k (ends_own n k))
-    (subst (All (Ends whole)) (sym (flat_map-append spine_numbers (parts_below false f) (spine_ends n k ∷ [])))
-    (All-append (Ends whole) (flat_map spine_numbers (parts_below false f)) []
-    (λ j d l. ends_right (spine_begins n k ∷ []) (parts_below false f ++ spine_ends n k ∷ []) _ (ends_left (parts_below false f) (spine_ends n k ∷ []) _ (below j d l)))
-    (All-nil (Ends whole))))
-
--- the parts of trees finish each of their spine nodes
-mutual
-  ends_parts : (b : Bool) (t : Tree) → All (Ends (parts b t)) (flat_map spine_numbers (parts b t))
-  ends_parts b (tree n k f) = ends_by (on_spine b n f) n k f (ends_below false f)
-
-  ends_below : (b : Bool) (f : Forest) → All (Ends (parts_below b f)) (flat_map spine_numbers (parts_below b f))
-  ends_below b no_trees = All-nil (Ends [])
-  ends_below b (more t f) =
-      subst (All (Ends (parts b t ++ parts_below b f))) (sym (flat_map-append spine_numbers (parts b t) (parts_below b f)))
-      (All-append (Ends (parts b t ++ parts_below b f)) (flat_map spine_numbers (parts b t)) (flat_map spine_numbers (parts_below b f))
-      (λ j d l. ends_left (parts b t) (parts_below b f) _ (ends_parts b t j d l))
-      (λ j d l. ends_right (parts b t) (parts_below b f) _ (ends_below b f j d l)))
-
--- each node on the spine finishes after the units
-pub spine_finishes : (nodes : List NumberedNode) (key : ℕ) → IsOnSpine nodes key → has_event Finished key (entries_by 0 (after_of (forest nodes))) ≡ true
-spine_finishes nodes key on =
-    All_at (Ends (parts_below true (forest nodes))) (spine_of (forest nodes)) on.0 key (ends_below true (forest nodes)) on.1 0

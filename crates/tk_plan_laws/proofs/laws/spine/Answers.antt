@@ -1,3 +1,4 @@
+use Rattle.tk_plan_laws.proofs.PlanTrees.{plan_tree}
 use Rattle.tk_plan_laws.proofs.SpineEvents.{spine_emits, spine_runs}
 use Rattle.tk_plan_laws.proofs.SpineLifecycle.{spine_keeps}
 use Rattle.tk_plan_laws.proofs.SpinePlaces.{are_placed}
@@ -13,4 +14,4 @@ pub returns-clause-runs : goal.returns-clause-runs
 returns-clause-runs c = spine_runs
 
 pub returns-clause-keeps : goal.returns-clause-keeps
-returns-clause-keeps c = λ nodes table planned numbers. spine_keeps nodes table planned numbers (spine_emits nodes table planned numbers) (spine_runs nodes)
+returns-clause-keeps c = λ nodes table planned numbers. spine_keeps nodes table (plan_tree nodes table planned numbers)

@@ -1,4 +1,4 @@
--- What the record of a run says of an id and of a child of it.
+-- What a record says of an id and of a child of it that shows a plan's nodes, as that of a run does.
 use Rattle.std.proofs.Common.{◌≡◌, ◌≢◌, ◌<◌, ℕ, Bool, true, false, not, cond, ◌&&◌, ◌||◌, List, [], ◌∷◌, ◌++◌, map, filter, take, drop, is_some, Some, slice_get, refl, sym, ap, ap₂, ◌∙◌, subst, if◌then◌else◌, ⊎_elim}
 use Rattle.std.specs.List.{list_any}
 use Rattle.std.proofs.lemmas.Bool.{true≢false, and_parts, cases_Bool, or_left, or_parts, or_right}
@@ -27,7 +27,7 @@ use Rattle.tk_plan_laws.proofs.Positions.{any_dropped, enclosed_at, past_first}
 use Rattle.tk_plan_laws.proofs.RecordIds.{ran_of}
 use Rattle.tk_plan_laws.proofs.RunChains.{chain_law}
 use Rattle.tk_plan_laws.proofs.SameReports.{chain_one_below}
-use Rattle.tk_plan_laws.proofs.Scripts.{around, chain_pair_below, either, no_child_of_itself, none_nil, not_eq, own_law_below, run_around}
+use Rattle.tk_plan_laws.proofs.Scripts.{IsOwn, around, chain_pair_below, either, no_child_of_itself, none_nil, not_eq, own_law_below, run_around}
 
 -- ---- what a node does, around labels of a child of it
 
@@ -139,39 +139,35 @@ module _ (all : List NumberedNode) (i : List SegmentView) (n : Node) (k : ℕ) (
         elim n.is_static as (λ b. is_enclosed false false (if b then run else act_label all k (Register parent) ∷ run) ≡ true)
         [ true ↦ enclosed_run | false ↦ ap₂ (λ x y. (not x || false) && is_enclosed (y && false) (y && false) run) other is ∙ enclosed_run ]
 
--- ---- runs
+-- ---- records that show nodes
+
+-- of an id and a child of it the record has no labels, or those of a node with that id around the child's
+pub record ShowsNodes (all : List NumberedNode) (table : List Descriptor) (r : Recorded) : Type 0 where
+  pub over : r.table ≡ table
+  pub nameless : filter (is_of []) (labels r) ≡ []
+  pub own : (i : List SegmentView) (s : SegmentView) → i ≢ [] → IsOwn all (λ p. IsKeyed all table p.node p.number) i s (filter (λ l. either i (i ++ s ∷ []) l.id) (labels r))
 
 -- a segment, for what holds of an id alone
 abbrev some_segment : SegmentView
 some_segment = record { tag = []; value = [] }
 
-module _ (all : List NumberedNode) (table : List Descriptor) (workers : ℕ) (r : Recorded) (plan : IsPlanTree all table) (run : IsRunOf all table workers r) where
-  pub same_one : (i : List SegmentView) → filter (is_of i) (labels r) ≡ filter (is_of i) (plan_labels all)
-  same_one i = chain_law all table workers r plan run (λ j. same_id j i) (chain_one_below all (λ j. same_id j i) (forest all) (plan.distinct i))
-
+module _ (all : List NumberedNode) (table : List Descriptor) (r : Recorded) (shows : ShowsNodes all table r) where
   -- each event has an id
   pub not_nil : list_any (is_of []) (labels r) ≡ true → ⊥
-  not_nil any =
-      let none = same_one [] ∙ shown_none_below all (λ j. same_id j []) 0 (forest all) (none_nil all [] (forest all) plan.built) in
-      true≢false (sym any ∙ (any_kept (is_of []) (is_of []) (λ l h. h) (labels r) ∙ ap (list_any (is_of [])) none))
+  not_nil any = true≢false (sym any ∙ (any_kept (is_of []) (is_of []) (λ l h. h) (labels r) ∙ ap (list_any (is_of [])) shows.nameless))
 
   module _ (i : List SegmentView) (s : SegmentView) (some : i ≢ []) where
     abbrev is_either : Label → Bool
     is_either l = either i (i ++ s ∷ []) l.id
 
-    abbrev kept : List Label
-    kept = filter is_either (labels r)
-
     -- what holds of no labels and of what a node with that id does, holds of the id's and the child's
     of_own : (F : List Label → Type 0) → F []
-        → ((n : Node) (k : ℕ) (parent : ℕ) (below : List Label) → same_id (id_at all k) i ≡ true → list_any (is_of i) below ≡ false → IsKeyed all table n k → F (around all parent n k below)) → F kept
-    of_own F none one =
-        let same : kept ≡ filter is_either (plan_labels all)
-        = chain_law all table workers r plan run (either i (i ++ s ∷ [])) (chain_pair_below all i s [] (forest all) plan.built (λ e. some (sym e)) (plan.distinct i) (plan.distinct (i ++ s ∷ []))) in
-        subst F (sym same) (⊎_elim
+        → ((n : Node) (k : ℕ) (parent : ℕ) (below : List Label) → same_id (id_at all k) i ≡ true → list_any (is_of i) below ≡ false → IsKeyed all table n k → F (around all parent n k below))
+        → F (filter is_either (labels r))
+    of_own F none one = ⊎_elim
         (λ e. subst F (sym e) none)
         (λ o. subst F (sym o.labels) (one o.numbered_node.node o.numbered_node.number o.parent o.below o.is o.apart o.holds))
-        (own_law_below all (λ p. IsKeyed all table p.node p.number) i s [] 0 (forest all) plan.built (λ e. some (sym e)) plan.keyed (plan.distinct i)))
+        (shows.own i s some)
 
     in_either : (p : Label → Bool) → Only p (is_of i) → Only p is_either
     in_either p only l h = or_left (is_of i l) (is_of (i ++ s ∷ []) l) (only l h)
@@ -214,3 +210,19 @@ module _ (all : List NumberedNode) (table : List Descriptor) (workers : ℕ) (r 
   -- an id of the table is never registered
   pub not_of_table : (i : List SegmentView) → i ≢ [] → (key : ℕ) → slice_get (ids_of table) key ≡ Some i → list_any (registers i) (labels r) ≡ false
   not_of_table i some = table_unregistered i some_segment some
+
+-- ---- runs
+
+module _ (all : List NumberedNode) (table : List Descriptor) (workers : ℕ) (r : Recorded) (plan : IsPlanTree all table) (run : IsRunOf all table workers r) where
+  pub same_one : (i : List SegmentView) → filter (is_of i) (labels r) ≡ filter (is_of i) (plan_labels all)
+  same_one i = chain_law all table workers r plan run (λ j. same_id j i) (chain_one_below all (λ j. same_id j i) (forest all) (plan.distinct i))
+
+  pub run_shows : ShowsNodes all table r
+  run_shows = record {
+    over = run.over;
+    nameless = same_one [] ∙ shown_none_below all (λ j. same_id j []) 0 (forest all) (none_nil all [] (forest all) plan.built);
+    own = λ i s some.
+        subst (IsOwn all (λ p. IsKeyed all table p.node p.number) i s)
+        (sym (chain_law all table workers r plan run (either i (i ++ s ∷ [])) (chain_pair_below all i s [] (forest all) plan.built (λ e. some (sym e)) (plan.distinct i) (plan.distinct (i ++ s ∷ [])))))
+        (own_law_below all (λ p. IsKeyed all table p.node p.number) i s [] 0 (forest all) plan.built (λ e. some (sym e)) plan.keyed (plan.distinct i));
+  }

@@ -1,4 +1,4 @@
--- The record of a run keeps the lifecycle, and so has what a listener may rely on.
+-- A record that shows a plan's nodes keeps the lifecycle, and so has what a listener may rely on.
 use Rattle.std.proofs.Common.{◌≡◌, ◌≢◌, ◌<◌, ◌≤◌, ℕ, ◌+◌, ⊎_elim, Bool, true, false, not, List, [], ◌∷◌, ◌++◌, length, take, Option, Some, None, slice_get, refl, sym, ap, ◌∙◌, subst, arith, eq-eqb, eqb-true, ◌==◌}
 use Rattle.std.specs.Option.{option_or}
 use Rattle.std.specs.List.{list_any}
@@ -18,12 +18,11 @@ use Rattle.tk_plan.specs.declared.trees.nodes.NumberedNode.{NumberedNode}
 use Rattle.tk_report_text.specs.Labels.{Label, id_in, label, labels, name, same_id}
 use Rattle.tk_report_text.proofs.Ids.{same_decides}
 use Rattle.tk_plan_laws.specs.Listening.{Listens, finishes, is_of, registers, starts}
-use Rattle.tk_plan_laws.specs.Scripts.{IsRunOf}
 use Rattle.tk_plan_laws.proofs.LifecycleToListener.{listens}
 use Rattle.tk_plan_laws.proofs.PlanTrees.{IsPlanTree}
 use Rattle.tk_plan_laws.proofs.Positions.{any_at, any_from, in_taken, map_get, taken_at}
 use Rattle.tk_plan_laws.proofs.RecordIds.{AreDescribed, AreKnown, is_registered, kinds_of_id, label_at, labelled, last_segment, named, one_key, registration, step_or_none}
-use Rattle.tk_plan_laws.proofs.RunLabels.{enclosed, not_later, not_nil, not_of_table, whole}
+use Rattle.tk_plan_laws.proofs.NodeLabels.{ShowsNodes, enclosed, not_later, not_nil, not_of_table, whole}
 
 -- ---- descriptors of the first entries
 
@@ -38,29 +37,29 @@ parent_is_some id s below is none =
     let short : length id ≡ 1 = ap (λ (l : List SegmentView). length l) (is ∙ ap (λ l. l ++ s ∷ []) none) in
     omega (arith, short, below)
 
--- ---- runs
+-- ---- records that show a plan's nodes
 
-module _ (all : List NumberedNode) (table : List Descriptor) (workers : ℕ) (r : Recorded) (plan : IsPlanTree all table) (run : IsRunOf all table workers r) where
+module _ (all : List NumberedNode) (table : List Descriptor) (r : Recorded) (plan : IsPlanTree all table) (shows : ShowsNodes all table r) where
   abbrev label_of : Entry → Label
   label_of e = label (name r) e.event
 
-  pub run_ids_differ : AreDifferent r.table
-  run_ids_differ = subst AreDifferent (sym run.over) plan.once
+  pub ids_differ : AreDifferent r.table
+  ids_differ = subst AreDifferent (sym shows.over) plan.once
 
   -- ---- the keys of events
 
   has_name : (p : ℕ) (e : Entry) → slice_get r.entries p ≡ Some e → name r e.event.key ≢ []
-  has_name p e at none = not_nil all table workers r plan run (any_from (is_of []) (labels r) p (label_of e) (label_at r p e at) ((same_decides (name r e.event.key) []).1 none))
+  has_name p e at none = not_nil all table r shows (any_from (is_of []) (labels r) p (label_of e) (label_at r p e at) ((same_decides (name r e.event.key) []).1 none))
 
-  pub run_described : AreDescribed r
-  run_described p e at = named r e.event.key (name r e.event.key) (has_name p e at) refl
+  pub are_described : AreDescribed r
+  are_described p e at = named r e.event.key (name r e.event.key) (has_name p e at) refl
 
   -- the first entries, with the event among them, have the id of its key
   described_by : (p : ℕ) (e : Entry) → slice_get r.entries p ≡ Some e → (n : ℕ) → p < n → HasId (first_entries n r) e.event.key (name r e.event.key)
   described_by p e at n lt = by (slice_get r.table e.event.key) refl
     where
       its : HasId r e.event.key (name r e.event.key)
-      its = run_described p e at
+      its = are_described p e at
 
       by : (o : Option Descriptor) → slice_get r.table e.event.key ≡ o → HasId (first_entries n r) e.event.key (name r e.event.key)
       by (Some d) is = record {
@@ -74,7 +73,7 @@ module _ (all : List NumberedNode) (table : List Descriptor) (workers : ℕ) (r 
           (λ (yes : g.position < n). yes)
           (λ (no : n ≤ g.position).
           let later : p < g.position = omega (arith, lt, no) in
-          absurd (not_later all table workers r plan run (name r e.event.key) (has_name p e at) p g.position (label_of e) (label_of g.entry) later (label_at r p e at) (label_at r g.position g.entry g.stands)
+          absurd (not_later all table r shows (name r e.event.key) (has_name p e at) p g.position (label_of e) (label_of g.entry) later (label_at r p e at) (label_at r g.position g.entry g.stands)
           ((same_decides (name r e.event.key) (name r e.event.key)).1 refl) (is_registered r g.entry (name r e.event.key) (ap (name r) g.key_is) g.dynamic)))
           (cases_lt g.position n) in record {
             descriptor = its.descriptor;
@@ -104,23 +103,23 @@ module _ (all : List NumberedNode) (table : List Descriptor) (workers : ℕ) (r 
           let same : d ≡ h.known.descriptor = same_Some d h.known.descriptor (sym (ap (λ o. option_or o (desc_in (take p r.entries) h.earlier)) is) ∙ h.known.described) in
           let there : slice_get (ids_of r.table) h.earlier ≡ Some h.id = map_get (λ (x : Descriptor). x.id) r.table h.earlier d is ∙ ap (λ (x : Descriptor). Some x.id) same ∙ ap Some h.known.id_is in
           true≢false (sym (any_from (registers h.id) (labels r) p (label_of e) (label_at r p e at) own)
-          ∙ not_of_table all table workers r plan run h.id some h.earlier (subst (λ t. slice_get (ids_of t) h.earlier ≡ Some h.id) run.over there))
+          ∙ not_of_table all table r shows h.id some h.earlier (subst (λ t. slice_get (ids_of t) h.earlier ≡ Some h.id) shows.over there))
       by None is =
           let g = registration (take p r.entries) h.earlier h.known.descriptor (sym (ap (λ o. option_or o (desc_in (take p r.entries) h.earlier)) is) ∙ h.known.described) in
           let t = in_taken p r.entries g.position g.entry g.stands in
-          not_later all table workers r plan run h.id some g.position p (label_of g.entry) (label_of e) t.0 (label_at r g.position g.entry t.1) (label_at r p e at)
+          not_later all table r shows h.id some g.position p (label_of g.entry) (label_of e) t.0 (label_at r g.position g.entry t.1) (label_at r p e at)
           ((same_decides (name r g.entry.event.key) h.id).1 (ap (name r) g.key_is ∙ name_first r p h.earlier h.id h.known)) own
 
   -- the key of a start runs there, where nothing finished its id
-  runs_there : (i : List SegmentView) (p q : ℕ) (x : Entry) → q < p → slice_get r.entries q ≡ Some x → starts i (label_of x) ≡ true → not (list_any (finishes i) (take p (labels r))) ≡ true
+  runs_there : (i : List SegmentView) (p q : ℕ) (x : Entry) (l : Label) → q < p → slice_get r.entries q ≡ Some x → label_of x ≡ l → starts i l ≡ true → not (list_any (finishes i) (take p (labels r))) ≡ true
       → HasId (first_entries p r) x.event.key i × (runs x.event.key (take p r.entries) ≡ true)
-  runs_there i p q x lt at start none = (
+  runs_there i p q x l lt at is start none = (
     subst (HasId (first_entries p r) x.event.key) its (described_by q x at p lt),
     and_from (has_event Started x.event.key (take p r.entries)) (not (has_event Finished x.event.key (take p r.entries))) started (unfinished (has_event Finished x.event.key (take p r.entries)) refl),
   )
     where
       both : (is_of i (label_of x) ≡ true) × (of_kind Started x ≡ true)
-      both = and_parts (is_of i (label_of x)) (of_kind Started x) start
+      both = and_parts (is_of i (label_of x)) (of_kind Started x) (ap (starts i) is ∙ start)
 
       its : name r x.event.key ≡ i
       its = (same_decides (name r x.event.key) i).0 both.0
@@ -129,9 +128,9 @@ module _ (all : List NumberedNode) (table : List Descriptor) (workers : ℕ) (r 
       started = any_from (is_event Started x.event.key) (take p r.entries) q x (taken_at p r.entries q x lt at) (and_from (of_kind Started x) (x.event.key == x.event.key) both.1 (eq-eqb x.event.key x.event.key refl))
 
       unfinished : (b : Bool) → has_event Finished x.event.key (take p r.entries) ≡ b → not b ≡ true
-      unfinished false is = refl
-      unfinished true is =
-          let f = any_at (is_event Finished x.event.key) (take p r.entries) is in
+      unfinished false same = refl
+      unfinished true same =
+          let f = any_at (is_event Finished x.event.key) (take p r.entries) same in
           let t = in_taken p r.entries f.position f.element f.stands in
           let end = and_parts (of_kind Finished f.element) (f.element.event.key == x.event.key) f.passes in
           let named : same_id (name r f.element.event.key) i ≡ true = (same_decides (name r f.element.event.key) i).1 (ap (name r) (eqb-true f.element.event.key x.event.key end.1) ∙ its) in
@@ -146,26 +145,26 @@ module _ (all : List NumberedNode) (table : List Descriptor) (workers : ℕ) (r 
       let past = take p (labels r) in
       let child : is_of (i ++ last.0 ∷ []) (label_of e) ≡ true = (same_decides (name r e.event.key) (i ++ last.0 ∷ [])).1 (name_next r p e e.event.key id at its ∙ last.1) in
       let held = and_parts (list_any (starts i) past) (not (list_any (finishes i) past))
-      (enclosed all table workers r plan run i last.0 (parent_is_some id last.0 below last.1) p (label_of e) (label_at r p e at) child) in
+      (enclosed all table r shows i last.0 (parent_is_some id last.0 below last.1) p (label_of e) (label_at r p e at) child) in
       let f = any_at (starts i) past held.0 in
       let t = in_taken p (labels r) f.position f.element f.stands in
       let x = labelled r f.position f.element t.1 in
-      let there = runs_there i p f.position x.entry t.0 x.stands (ap (starts i) x.label_is ∙ f.passes) held.1 in
+      let there = runs_there i p f.position x.entry f.element t.0 x.stands x.label_is f.passes held.1 in
       (x.entry.event.key, there.0, there.1)
 
   whole_steps : (key : ℕ) → IsWhole (steps_of key r.entries)
   whole_steps key = ⊎_elim
       (λ (none : steps_of key r.entries ≡ []). subst IsWhole (sym none) tt)
       (λ (its : HasId r key (name r key) × (name r key ≢ [])).
-      subst IsWhole (kinds_of_id r run_ids_differ ids_are_new run_described (name r key) key its.0) (whole all table workers r plan run (name r key) its.1))
-      (step_or_none (λ k. HasId r k (name r k) × (name r k ≢ [])) key r.entries (λ p e at. (run_described p e at, has_name p e at)))
+      subst IsWhole (kinds_of_id r ids_differ ids_are_new are_described (name r key) key its.0) (whole all table r shows (name r key) its.1))
+      (step_or_none (λ k. HasId r k (name r k) × (name r k ≢ [])) key r.entries (λ p e at. (are_described p e at, has_name p e at)))
 
-  pub run_keeps : KeepsLifecycle r
-  run_keeps = record { ids = ids_are_new; below = below_running; whole = whole_steps }
+  pub keeps : KeepsLifecycle r
+  keeps = record { ids = ids_are_new; below = below_running; whole = whole_steps }
 
   -- of an id one key has events
-  pub run_one_key : (id : List SegmentView) (j k : ℕ) → HasId r j id → HasId r k id → j ≡ k
-  run_one_key = one_key r run_ids_differ run_keeps.ids
+  pub only_key : (id : List SegmentView) (j k : ℕ) → HasId r j id → HasId r k id → j ≡ k
+  only_key = one_key r ids_differ keeps.ids
 
-  pub run_listens : Listens (labels r)
-  run_listens = listens r known run_ids_differ run_keeps
+  pub relied_on : Listens (labels r)
+  relied_on = listens r known ids_differ keeps
