@@ -15,7 +15,7 @@ ghost use Rattle.tk_explanations.specs.steps.{passes};
 use crate::sentences::EventAt;
 use std::alloc::{AllocError, Global};
 use std::collections::HashSet;
-use tk_events::{Kind, Payload, Status};
+use tk_events::{Kind, Outcome, Payload};
 use tk_ids::{Descriptor, Text};
 use tk_record::{EntryView, Record};
 
@@ -44,7 +44,7 @@ fn is_success(view: &EntryView<'_>) -> bool
     ensures { result ≡ of_status Successful (entry_of_view view.now) }
 {
     match (view.kind, view.payload) {
-        (Kind::Finished, Payload::Outcome(status, _)) => matches!(status, Status::Successful),
+        (Kind::Finished, Payload::Outcome(outcome)) => matches!(outcome, Outcome::Successful),
         _ => false,
     }
 }

@@ -1,4 +1,3 @@
-use Rattle.std.proofs.Common.{List, ℕ}
 use Rattle.tk_streams.proofs.PieceLemmas.{adds_as, adds_both, none_sent, on_ok, on_err}
 use Rattle.tk_explanations.proofs.statistics.write_with_rows.Goals as goal
 
