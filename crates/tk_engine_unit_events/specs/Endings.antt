@@ -1,20 +1,12 @@
 -- How static tests may end.
-use Rattle.std.specs.Prelude.{◌≡◌, ℕ, true, List, Some, None, slice_get}
+use Rattle.std.specs.Prelude.{◌≡◌, ℕ, true, List, Some, slice_get}
 use Rattle.tk_ids.specs.DTypes.{is_test}
 use Rattle.tk_ids.specs.declared.descriptors.Descriptor.{Descriptor}
 use Rattle.tk_events.specs.declared.events.Event.{Event}
 use Rattle.tk_events.specs.declared.kinds.Kind.TheVariants.{Finished}
+use Rattle.tk_events.specs.declared.outcomes.Outcome.{Outcome}
 use Rattle.tk_events.specs.declared.payloads.Payload.{Payload}
 use Rattle.tk_events.specs.declared.payloads.Payload.TheVariants as payloads
-use Rattle.tk_events.specs.declared.statuses.Status.TheVariants as statuses
-use Rattle.tk_engine_unit_events.specs.declared.outcomes.Outcome.{Outcome}
-use Rattle.tk_engine_unit_events.specs.declared.outcomes.Outcome.TheVariants as outcomes
-
--- the payload of a finish with this outcome
-abbrev pub payload_of : Outcome → Payload
-payload_of outcomes.Successful = payloads.Outcome statuses.Successful None
-payload_of (outcomes.Aborted message) = payloads.Outcome statuses.Aborted message
-payload_of (outcomes.Failed message) = payloads.Outcome statuses.Failed message
 
 -- the key is that of a static descriptor which is a test
 pub record IsStaticTest (table : List Descriptor) (key : ℕ) : Type 0 where
@@ -24,7 +16,7 @@ pub record IsStaticTest (table : List Descriptor) (key : ℕ) : Type 0 where
 
 -- the payload is that of an outcome which the test with this key may have
 abbrev pub HasOutcome : (ℕ → Outcome → Type 0) → ℕ → Payload → Type 0
-HasOutcome may_end key payload = (o : Outcome) × may_end key o × (payload ≡ payload_of o)
+HasOutcome may_end key payload = (o : Outcome) × may_end key o × (payload ≡ payloads.Outcome o)
 
 -- where the key is a static test's, the payload is that of an outcome which the test may have
 abbrev pub MayFinish : List Descriptor → (ℕ → Outcome → Type 0) → ℕ → Payload → Type 0

@@ -8,12 +8,12 @@ use Rattle.tk_events.specs.declared.events.Event.{Event}
 use Rattle.tk_events.specs.declared.kinds.Kind.{Kind}
 use Rattle.tk_events.specs.declared.kinds.Kind.TheVariants.{Dynamic, File, Finished}
 use Rattle.tk_events.specs.declared.kinds.Kind.TheVariants.{Reporting, Skipped, Started}
+use Rattle.tk_events.specs.declared.outcomes.Outcome.{Outcome}
 use Rattle.tk_events.specs.declared.payloads.Payload.{Payload}
 use Rattle.tk_queue_session.specs.Registering.{IsRegisteredAs, RegisterRequest}
 use Rattle.tk_queue_session.specs.Senders.{SenderView, sends}
 use Rattle.tk_engine_execute.specs.Engines.{Extends}
 use Rattle.tk_engine_execute.specs.declared.engines.UnitFault.{UnitFault}
-use Rattle.tk_engine_unit_events.specs.declared.outcomes.Outcome.{Outcome}
 
 -- what contracts see of a unit that runs: its sink, the keys that run, innermost first, the stamp
 -- of what a body publishes, where no clock gives it, and the one that the static test that runs has

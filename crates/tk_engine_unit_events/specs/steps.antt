@@ -1,20 +1,15 @@
 -- What private clauses and proofs alone name.
-use Rattle.std.specs.Prelude.{◌≡◌, ◌⊎◌, ℕ, ◌<◌, true, List, [], ◌∷◌, length, Some, slice_get, ◌≢◌}
-use Rattle.std.specs.Prelude.{◌++◌}
-use Rattle.tk_ids.specs.IdText.{SegmentView, parent_of, FitsLimits, IsId, id_text}
-use Rattle.tk_ids.specs.Table.{ids_of, HasId as TableHasId}
-use Rattle.tk_ids.specs.declared.descriptors.Descriptor.{Descriptor}
-use Rattle.tk_queue_session.specs.Emission.{entries_by}
-use Rattle.tk_query_lifecycle.specs.Lifecycle.{runs}
-use Rattle.tk_engine_lifecycle.specs.Units.{Frame}
-use Rattle.tk_engine_lifecycle.specs.UnderWay.{IsOneOf}
-use Rattle.tk_queue_session.specs.Senders.{SenderView}
-use Rattle.tk_engine_unit_events.specs.Running.{keys_of, with_ids}
-use Rattle.tk_engine_unit_events.specs.UnitSteps.{UnitView}
-use Rattle.tk_engine_unit_events.specs.declared.unit_events.UnitProgress.{UnitProgress}
+use Rattle.std.specs.Prelude.{◌≡◌, ◌≢◌, ◌⊎◌, ℕ, ◌<◌, true, List, [], ◌∷◌, ◌++◌, length, Some}
+use Rattle.std.specs.Prelude.{slice_get}
 use Rattle.std.specs.Borrow.{Bor}
+use Rattle.tk_ids.specs.IdText.{FitsLimits, IsId, SegmentView, id_text, parent_of}
+use Rattle.tk_ids.specs.Table.{HasId as TableHasId, ids_of}
+use Rattle.tk_ids.specs.declared.descriptors.Descriptor.{Descriptor}
 use Rattle.tk_ids.specs.declared.id_faults.IdFault.TheVariants.{TooLong}
+use Rattle.tk_query_lifecycle.specs.Lifecycle.{runs}
+use Rattle.tk_queue_session.specs.Emission.{entries_by}
 use Rattle.tk_queue_session.specs.Registering.{RegisterRequest}
+use Rattle.tk_queue_session.specs.Senders.{SenderView}
 use Rattle.tk_queue_session.specs.declared.sender_faults.RegisterFault.TheVariants.{Id}
 use Rattle.tk_engine_execute.specs.Sinks.{IsRegisterCause}
 use Rattle.tk_engine_execute.specs.declared.engines.TheConstants.{OUT_OF_ORDER, TWICE}
@@ -22,7 +17,12 @@ use Rattle.tk_engine_execute.specs.declared.engines.UnitFault.{UnitFault}
 use Rattle.tk_engine_execute.specs.declared.engines.UnitFault.TheVariants.{Memory, Own, Sink, Text}
 use Rattle.tk_engine_execute.specs.declared.sinks.SinkFault.{SinkFault}
 use Rattle.tk_engine_execute.specs.declared.sinks.SinkFault.TheVariants.{Register}
+use Rattle.tk_engine_lifecycle.specs.UnderWay.{IsOneOf}
+use Rattle.tk_engine_lifecycle.specs.Units.{Frame}
 use Rattle.tk_engine_unit_events.specs.RegisteredIds.{is_registered}
+use Rattle.tk_engine_unit_events.specs.Running.{keys_of, with_ids}
+use Rattle.tk_engine_unit_events.specs.UnitSteps.{UnitView}
+use Rattle.tk_engine_unit_events.specs.declared.unit_events.UnitProgress.{UnitProgress}
 
 -- Where the id has a parent's id, a static key has it that is one of the running keys, or that runs
 -- before the units.

@@ -2,7 +2,6 @@
 #![tactic(auto)]
 
 mod leases;
-mod outcomes;
 mod running_keys;
 mod shapes;
 mod stacks;
@@ -12,7 +11,6 @@ mod unit_ids;
 mod unit_runs;
 
 pub use leases::Lease;
-pub use outcomes::Outcome;
 pub use shapes::Shape;
 pub use unit_bodies::UnitBody;
 pub use unit_events::{Child, UnitEvents};

@@ -1,12 +1,12 @@
 //! What runs with the events of a unit.
 ghost use Rattle.std.specs.Prelude.{IfErr, IfOk};
 
-use crate::outcomes::Outcome;
 use crate::unit_events::UnitEvents;
 use crate::unit_runs::UnitRun;
 use std::alloc::Global;
 use std::sync::Wait;
 use tk_engine_execute::{Sink, UnitFault};
+use tk_events::Outcome;
 
 /// The body of a test, to which the events of its unit are lent.
 ///
@@ -14,7 +14,7 @@ use tk_engine_execute::{Sink, UnitFault};
 /// one it may run, with which outcome, and `may_fail` from which to which it may, with which fault.
 pub trait UnitBody {
     ghost use Rattle.tk_engine_unit_events.specs.UnitSteps.{BodyFails, BodyRuns};
-    ghost use Rattle.tk_engine_unit_events.specs.declared.outcomes.Outcome.{Outcome};
+    ghost use Rattle.tk_events.specs.declared.outcomes.Outcome.{Outcome};
 
     ghost may_end: { Self → Outcome → Type 0 };
 

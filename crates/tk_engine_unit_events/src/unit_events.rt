@@ -4,7 +4,7 @@ ghost use Rattle.tk_ids.specs.declared.descriptors.Descriptor.{Descriptor as Des
 ghost use Rattle.tk_engine_execute.specs.Engines.{Extends, IsSameSender};
 ghost use Rattle.tk_engine_execute.specs.declared.engines.UnitFault.TheVariants.{Own};
 ghost use Rattle.tk_events.specs.declared.kinds.Kind.TheVariants.{Finished, Skipped, Started};
-ghost use Rattle.tk_events.specs.declared.payloads.Payload.TheVariants.{Nothing};
+ghost use Rattle.tk_events.specs.declared.payloads.Payload.TheVariants.{Nothing, Outcome as Ended};
 ghost use Rattle.tk_engine_unit_events.specs.Endings.{IsStaticTest};
 ghost use Rattle.tk_engine_unit_events.specs.UnitSteps.{Grew, HasFinished, HasSkipped, HasStarted, IsInnermost, KeepsOuter, Published, child_request, event, publishes, after_event, after_start, begun};
 ghost use Rattle.tk_engine_unit_events.specs.Shapes.{count_units, frame, keys_in};
@@ -15,7 +15,6 @@ ghost use Rattle.tk_engine_unit_events.specs.steps.{unit_view};
 ghost use Rattle.tk_engine_unit_events.specs.declared.running_keys.RunningKey.{RunningKey};
 
 use crate::leases::Lease;
-use crate::outcomes::Outcome;
 use crate::running_keys::RunningKey;
 use crate::shapes::Shape;
 use crate::stacks::Stack;
@@ -28,7 +27,7 @@ use std::marker::{Model, PhantomData};
 use std::mem;
 use std::sync::Wait;
 use tk_engine_execute::{OUT_OF_ORDER, Sink, UnitFault};
-use tk_events::{Event, Kind, Payload};
+use tk_events::{Event, Kind, Outcome, Payload};
 use tk_ids::{DType, Descriptor, IdText, Segment};
 
 /// What is registered below a running key.
@@ -425,21 +424,21 @@ impl<'a, S: Sink, K: UnitRun> UnitEvents<'a, S, K> {
         self.publish(rt, kind, stamp, payload)
     }
 
-    /// Finishes a key, which has to be the innermost running one.
+    /// Finishes a key with this outcome; the key has to be the innermost running one.
     pub fn finish<R: Wait>(
         &mut self,
         rt: &R,
         key: u32,
         stamp: u64,
-        outcome: Payload,
+        outcome: Outcome,
     ) -> Result<(), UnitFault>
         requires { key < length K.unit.frame.table
-            → K.unit.may_step (event Finished key stamp outcome) }
+            → K.unit.may_step (event Finished key stamp (Ended outcome)) }
         ensures ok { OnOk result
-            (HasFinished self.old self.new (event Finished key stamp outcome)) }
+            (HasFinished self.old self.new (event Finished key stamp (Ended outcome))) }
         ensures err { OnErr result (self.new ≡ self.old) }
         ensures cause { IfErr result
-            (IsInnermostCause self.old (event Finished key stamp outcome)) }
+            (IsInnermostCause self.old (event Finished key stamp (Ended outcome))) }
     {
         let innermost = innermost(&self.progress.running)?;
         if innermost.key != key {
@@ -449,7 +448,7 @@ impl<'a, S: Sink, K: UnitRun> UnitEvents<'a, S, K> {
             kind: Kind::Finished,
             key,
             stamp,
-            payload: outcome,
+            payload: Payload::Outcome(outcome),
         };
         self.lease.emit(rt, event)?;
         let _finished = self.progress.running.pop();

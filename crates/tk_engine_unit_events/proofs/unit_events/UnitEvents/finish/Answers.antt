@@ -2,6 +2,7 @@ use Rattle.std.proofs.Common.{List, ap, inr, refl, sym, subst, ◌∙◌}
 use Rattle.tk_engine_unit_events.specs.Events.{IsRunning}
 use Rattle.std.proofs.lemmas.Result.{err_from_is_err_and}
 use Rattle.tk_events.specs.declared.kinds.Kind.TheVariants.{Finished}
+use Rattle.tk_events.specs.declared.payloads.Payload.TheVariants.{Outcome}
 use Rattle.tk_engine_unit_events.specs.Refusals.{IsEmitCause, IsInnermostKey}
 use Rattle.tk_engine_unit_events.specs.UnitSteps.{UnitView, event}
 use Rattle.tk_engine_unit_events.specs.declared.running_keys.RunningKey.{RunningKey}
@@ -60,6 +61,6 @@ returns-in_err-emit-clause-cause g c =
     rw (p.1, p.2) (inr (
       subst (IsInnermostKey c.args.self.now.running) c.if-innermost-key.false
           (keys_of (with_ids t some.0), runs),
-      subst (λ s. IsEmitCause s (event Finished c.args.key c.args.stamp c.args.outcome)
-          c.in_err-emit.field-0.0) sink c.in_err-emit.ensures.cause,
+      subst (λ s. IsEmitCause s (event Finished c.args.key c.args.stamp
+          (Outcome c.args.outcome)) c.in_err-emit.field-0.0) sink c.in_err-emit.ensures.cause,
     ))
