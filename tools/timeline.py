@@ -349,11 +349,16 @@ def read_records(paths: Sequence[str]) -> Tuple[List[bytes], List[str]]:
     return texts, [os.path.basename(path) for path in paths]
 
 
-def main(words: Sequence[str]) -> int:
-    parser = argparse.ArgumentParser(prog="tools/timeline", description="Draws runs as a page: tools/timeline [RECORD ..] > run.html.")
+def read_words(words: Sequence[str], name: str, description: str) -> argparse.Namespace:
+    """The words of the script with this name, `--unit` and records."""
+    parser = argparse.ArgumentParser(prog=name, description=description)
     parser.add_argument("--unit", choices=UNITS, help="what a stamp counts: microseconds in a record of the listener for JUnit")
     parser.add_argument("records", metavar="RECORD", nargs="*", help="a record text; without one standard input is read")
-    read = parser.parse_args(words)
+    return parser.parse_args(words)
+
+
+def main(words: Sequence[str]) -> int:
+    read = read_words(words, "tools/timeline", "Draws runs as a page: tools/timeline [RECORD ..] > run.html.")
     texts, names = read_records(read.records)
     print(page_of(data_of(Record(*texts), UNITS.get(read.unit, 0), names)), end="", flush=True)
     return 0

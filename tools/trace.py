@@ -9,7 +9,6 @@ no times, positions in the records stand for microseconds.
 The program is asked as by `tools/timeline`, with the same statuses.
 """
 
-import argparse
 import json
 import os
 import sys
@@ -21,7 +20,7 @@ sys.path.insert(0, os.path.dirname(os.path.realpath(__file__)))
 sys.dont_write_bytecode = True
 
 from asking import run_script
-from timeline import NUMBERS, TYPES, UNFINISHED, UNITS, Execution, Record, read_records
+from timeline import NUMBERS, TYPES, UNFINISHED, UNITS, Execution, Record, read_records, read_words
 
 MICROSECOND = 1_000
 """How many nanoseconds it has: a trace counts microseconds."""
@@ -85,12 +84,9 @@ def trace_of(record: Record, names: Sequence[str], nanoseconds: int) -> List[Dic
 
 
 def main(words: Sequence[str]) -> int:
-    parser = argparse.ArgumentParser(prog="tools/trace", description="Writes runs as a trace of Chrome: tools/trace RECORD .. > run.json.")
-    parser.add_argument("--unit", choices=UNITS, default="microseconds", help="what a stamp counts")
-    parser.add_argument("records", metavar="RECORD", nargs="*", help="a record text; without one standard input is read")
-    read = parser.parse_args(words)
+    read = read_words(words, "tools/trace", "Writes runs as a trace of Chrome: tools/trace RECORD .. > run.json.")
     texts, names = read_records(read.records)
-    lines = map(json.dumps, trace_of(Record(*texts), names, UNITS[read.unit]))
+    lines = map(json.dumps, trace_of(Record(*texts), names, UNITS.get(read.unit, MICROSECOND)))
     print('{"traceEvents":[\n' + ",\n".join(lines) + "\n]}", flush=True)
     return 0
 
