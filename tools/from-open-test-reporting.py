@@ -16,7 +16,7 @@ from calendar import timegm
 from time import strptime
 from typing import Dict, Iterator, List, Optional
 from xml.etree import ElementTree
-from xml.parsers import expat
+from xml.parsers.expat import errors
 
 sys.path.insert(0, os.path.dirname(os.path.realpath(__file__)))
 sys.dont_write_bytecode = True
@@ -27,10 +27,10 @@ FORBIDDEN = re.compile("[\0-\x08\x0b\x0c\x0e-\x1f\ufffe\uffff]")
 REFERENCE = re.compile(r"<!\[CDATA\[.*?\]\]>|&#(?:x([0-9a-fA-F]+)|([0-9]+));", re.DOTALL)
 """A reference to a character by its number; what looks like one in a section of plain text is none."""
 
-CUT_OFF = [
-    expat.errors.codes[it]
-    for it in (expat.errors.XML_ERROR_NO_ELEMENTS, expat.errors.XML_ERROR_UNCLOSED_TOKEN, expat.errors.XML_ERROR_UNCLOSED_CDATA_SECTION)
-]
+DOCUMENT_TYPE = re.compile(r"(?:<\?(?:(?!\?>).)*\?>|<!--(?:(?!-->).)*-->|[\s\ufeff])*<!DOCTYPE", re.DOTALL)
+"""What may stand before a document type, and how that begins."""
+
+CUT_OFF = (errors.XML_ERROR_NO_ELEMENTS, errors.XML_ERROR_UNCLOSED_TOKEN, errors.XML_ERROR_UNCLOSED_CDATA_SECTION)
 """The faults of XML that goes on nowhere."""
 
 FRAMES = re.compile(r"\n\s+at |\n\s+\.\.\. \d+ more|\n\tSuppressed: |\nCaused by: |\Z")
@@ -57,13 +57,14 @@ def allowed(found: "re.Match[str]") -> str:
 def elements_of(data: bytes) -> Iterator[ElementTree.Element]:
     """The elements of the report, in their order, up to where it is cut off."""
     text = REFERENCE.sub(allowed, FORBIDDEN.sub("\ufffd", data.decode(errors="replace")))
-    refuse_type(text.encode())
+    if DOCUMENT_TYPE.match(text):
+        raise refused("the report has a document type")
     parser = ElementTree.XMLPullParser(["start", "end"])
     try:
         parser.feed(text)
         parser.close()
     except ElementTree.ParseError as fault:
-        if fault.code not in CUT_OFF:
+        if errors.messages[fault.code] not in CUT_OFF:
             raise refused(f"the report is no XML: {fault}") from fault
     depth, root = 0, "nothing"
     for event, element in parser.read_events():
@@ -73,21 +74,6 @@ def elements_of(data: bytes) -> Iterator[ElementTree.Element]:
             yield element
     if root != "events":
         raise refused(f"the report is no Open Test Reporting: it begins with {root}")
-
-
-def refuse_type(data: bytes) -> None:
-    """Refuses a document type, before anything that it declares is used."""
-
-    def refuse(*_: object) -> None:
-        raise refused("the report has a document type")
-
-    checked = expat.ParserCreate("UTF-8")
-    checked.StartDoctypeDeclHandler = refuse
-    try:
-        checked.Parse(data, False)
-    except expat.ExpatError:
-        # (the parser of the elements says why)
-        pass
 
 
 def local(element: ElementTree.Element) -> str:

@@ -36,7 +36,7 @@ SKIPPED, WRONG_STATUS = finished(1, "SKIPPED"), finished(1, "ERRORED")
 STARTED_AT_5, FINISHED_AT_4 = started(1, "[e:e]", seconds="05"), finished(1, seconds="04.5")
 BELOW, BARS = started(1, "[e:e]/[c:x%2Fy]/[t:1]"), started(1, "[e:e|]", "n|", "CONTAINER_AND_TEST")
 NO_ID, NO_TIME = started(1, ""), started(1, "[e:e]", seconds="x")
-ENTITY = f'<!DOCTYPE e [<!ENTITY x SYSTEM "file:///etc/hostname">]>{failed("a.B: &x;")}'
+ENTITY = f'<?xml version="1.0"?>\n<!-- <a> --><!DOCTYPE e [<!ENTITY x SYSTEM "file:///etc/hostname">]>{failed("a.B: &x;")}'
 
 
 def right(name, report, *lines):
