@@ -9,6 +9,7 @@ Of the built test crates the tests whose path has the word `refused` or `refusal
 once as they are. `requests.c` shows that each function of `refuse.c` refuses its requests.
 """
 
+import itertools
 import os
 import re
 import subprocess
@@ -18,6 +19,7 @@ import unittest
 from dataclasses import dataclass, replace
 from typing import Callable, Dict, FrozenSet, List, Optional, Sequence, Set, Tuple
 
+import fixtures
 from fixtures import PROGRAM, TEST_CRATES, TOP, WithProgram, parameterized
 from rows import rows
 
@@ -60,9 +62,9 @@ REQUESTS = [
 
 @dataclass(frozen=True)
 class Ended:
-    """How a run ended: its status (None where it was stopped for time), what it wrote, whose request was refused, and its blocks."""
+    """How a run ended: its status (-9 where it was stopped for time), what it wrote, whose request was refused, and its blocks."""
 
-    status: Optional[int]
+    status: int
     output: bytes
     error: bytes
     refused_of: str
@@ -97,18 +99,13 @@ class Sweep:
 def run(library: str, sweep: Sweep, number: int) -> Ended:
     """Runs a command line with the request of this number refused, or with none where it is 0."""
     with tempfile.TemporaryFile() as notices:
-        environment = {"PATH": "/usr/bin:/bin", "LD_PRELOAD": library, "REFUSE": f"{sweep.kind} {number}", "REFUSED_TO": str(notices.fileno())}
-        how = {"env": environment, "pass_fds": [notices.fileno()], "stdout": subprocess.PIPE, "stderr": subprocess.PIPE}
-        try:
-            ran = subprocess.run(sweep.command, input=sweep.input, timeout=TIME_LIMIT, **how)
-            status, output, error = ran.returncode, ran.stdout, ran.stderr
-        except subprocess.TimeoutExpired as over:
-            status, output, error = None, over.stdout or b"", over.stderr or b""
+        given = {"LD_PRELOAD": library, "REFUSE": f"{sweep.kind} {number}", "REFUSED_TO": str(notices.fileno())}
+        ran = fixtures.run(sweep.command, sweep.input, TIME_LIMIT, env={"PATH": "/usr/bin:/bin", **given}, pass_fds=[notices.fileno()])
         notices.seek(0)
         notice = notices.read()
     kept = re.search(rb"kept (-?[0-9]+)\n", notice)
     refused_of = {b"f": "first", b"w": "worker"}.get(notice[:1], "")
-    return Ended(status, output, error, refused_of, int(kept[1]) if kept else None)
+    return Ended(ran.status, ran.output, ran.error, refused_of, int(kept[1]) if kept else None)
 
 
 def shown(ended: Ended) -> str:
@@ -122,10 +119,10 @@ def round_of(run_number: Callable[[int], Ended], sweep: Sweep, ordinary: Ended) 
         number += 1
         ended = run_number(number)
         if not ended.refused_of:
-            if (ended.status, ended.output, ended.error) != (ordinary.status, ordinary.output, ordinary.error):
+            if replace(ended, kept=ordinary.kept) != ordinary:
                 failed.append(f"nothing refused: {shown(ended)}; ordinarily {shown(ordinary)}")
             break
-        is_ordinary = (ended.status, ended.output, ended.error, ended.kept) == (ordinary.status, ordinary.output, ordinary.error, ordinary.kept)
+        is_ordinary = replace(ended, refused_of="") == ordinary
         survived += is_ordinary
         if is_ordinary and survived <= sweep.survived:
             continue
@@ -182,27 +179,40 @@ def passes(ended: Ended, _ordinary: Ended) -> bool:
     return ended.status == 0
 
 
-@dataclass(frozen=True)
-class Command:
-    """A command, its input, how many requests of each kind it makes at least, how many blocks it keeps, and the units that have to fail."""
-
-    words: str
-    input: str
-    least: Dict[str, int]
-    kept: int = 0
-    units: FrozenSet[int] = frozenset()
-
-
-def of_a_record(words: str, text: str, memory: int = 29) -> Command:
-    return Command(words, text, {"memory": memory, "read": 2, "write": 1})
+RULES = {
+    "memory": refused_with(OUT_OF_MEMORY),
+    "read": refused_with(DEVICE_FAILED),
+    "write": refused_with(DEVICE_FAILED),
+    "thread": refused_with(NO_THREAD),
+    "message": keeps_status,
+}
+NUMBERS = itertools.count(1)
 
 
-def of_a_long_record(words: str, text: str) -> Command:
+def sweeps(words: str, text: str, least: Dict[str, int], kept: int = 0, units: int = 0) -> List[Sweep]:
+    """A sweep of a command line for each kind of requests, of which it makes so many at least."""
+    name, command = f"{next(NUMBERS)} {words}", [os.fsencode(PROGRAM), *as_words(words)]
+    rules = {**RULES, "memory": refused_memory_of_a_run} if words.startswith("run") else RULES
+    found = [Sweep(f"{name}, {kind}", kind, command, as_bytes(text), rules[kind], number, kept=kept) for kind, number in least.items()]
+    # (the room for the list of words is asked for at once, and else word by word)
+    return [replace(it, units=frozenset(range(units)), survived=1) if it.kind == "memory" else it for it in found]
+
+
+def of_a_record(words: str, text: str, memory: int = 29) -> List[Sweep]:
+    return sweeps(words, text, {"memory": memory, "read": 2, "write": 1})
+
+
+def of_a_long_record(words: str, text: str) -> List[Sweep]:
     return of_a_record(words, text, 34)
 
 
-def of_a_run(words: str, text: str, threads: str, kept: int, units: str = "0") -> Command:
-    return Command(words, text, {"memory": 190, "read": 2, "write": 1, "thread": int(threads)}, kept, frozenset(range(int(units))))
+def of_a_run(words: str, text: str, threads: str, kept: int, units: str = "0") -> List[Sweep]:
+    return sweeps(words, text, {"memory": 190, "read": 2, "write": 1, "thread": int(threads)}, kept, int(units))
+
+
+def fault(words: str, text: str) -> List[Sweep]:
+    """Words and an input that are refused: nothing is kept then either, as the lock keys of a plan that has too many."""
+    return sweeps(words, text, {"message": 1})
 
 
 LONGER = " in more bytes than stand in a value"
@@ -224,33 +234,6 @@ SKIP_REPLAY = f"testkit-replay|2\nW|1\nN|T|[engine:e]|e\nE|1|0|7|skip|off{LONGER
 """The first event that waits has a text of its own, which goes back where there is no memory for the list of what waits."""
 
 SIXTEEN_LOCKS = DEMO_PLAN.replace('[{"key":"db"}]', "[" + ",".join(f'{{"key":"{key}{LONGER}"}}' for key in range(16)) + "]")
-
-
-def fault(words: str, text: str) -> Command:
-    """Words and an input that are refused: nothing is kept then either, as the lock keys of a plan that has too many."""
-    return Command(words, text, {"message": 1})
-
-
-COMMANDS = rows(__file__, globals())
-
-
-def sweeps_of_program() -> List[Sweep]:
-    found = []
-    for number, it in enumerate(COMMANDS):
-        rules = {
-            "memory": refused_memory_of_a_run if it.words.startswith("run") else refused_with(OUT_OF_MEMORY),
-            "read": refused_with(DEVICE_FAILED),
-            "write": refused_with(DEVICE_FAILED),
-            "thread": refused_with(NO_THREAD),
-            "message": keeps_status,
-        }
-        for kind, least in it.least.items():
-            units = it.units if kind == "memory" else frozenset()
-            # (the room for the list of words is asked for at once, and else word by word)
-            survived = int(kind == "memory")
-            command = [os.fsencode(PROGRAM), *as_words(it.words)]
-            found.append(Sweep(f"{number + 1} {it.words}, {kind}", kind, command, as_bytes(it.input), rules[kind], least, units, it.kept, survived))
-    return found
 
 
 def names_of(program: str) -> List[str]:
@@ -283,7 +266,7 @@ class WithRefusals(WithLibrary):
 
 
 class OfTheProgram(WithProgram, WithRefusals):
-    @parameterized(sweeps_of_program)
+    @parameterized(lambda: rows(__file__, globals()))
     def test_each_request(self, sweep):
         self.check(sweep)
 
@@ -310,13 +293,12 @@ SURVIVED = replace(ORDINARY, refused_of="first")
 OF_UNIT = replace(REFUSED, error=b"testkit: unit 1 failed\n", refused_of="worker")
 FAULT = replace(ORDINARY, status=2, output=b"", error=b"testkit: bad word 0\n")
 SILENT = replace(FAULT, error=b"", refused_of="first")
-KEEPS_ONE = replace(ORDINARY, kept=1)
 MEMORY, OF_A_PLAN = refused_with(OUT_OF_MEMORY), refused_memory_of_a_run
 
 
-def example(name: str, is_passed: bool, rule: Callable, ended: Ended, first: Ended = ORDINARY, more: Sequence[Ended] = (), **how):
-    """A sweep, its runs (the ordinary one, and those in which each request is refused), and whether they are right."""
-    return Sweep(name, "memory", [], b"", rule, **how), [first, ended, *more, first], is_passed
+def example(name: str, is_passed: bool, rule: Callable, ended: Ended, first: Ended = ORDINARY, **how):
+    """A sweep, its runs (the ordinary one, one in which a request is refused, and one that meets no refusal), and whether they are right."""
+    return Sweep(name, "memory", [], b"", rule, **how), [first, ended, first], is_passed
 
 
 EXAMPLES = [
@@ -325,7 +307,6 @@ EXAMPLES = [
     example("the line of another fault", False, MEMORY, replace(REFUSED, error=b"testkit: no thread\n")),
     example("output that is no prefix", False, MEMORY, replace(REFUSED, output=b"answer")),
     example("a block that it keeps", False, MEMORY, replace(REFUSED, kept=1)),
-    example("no block, of which the ordinary run keeps one and may not", False, MEMORY, REFUSED, KEEPS_ONE),
     example("the ordinary answer", False, MEMORY, SURVIVED),
     example("the ordinary answer, once", True, MEMORY, SURVIVED, survived=1),
     example("the unit of a worker", True, OF_A_PLAN, OF_UNIT, units=frozenset({1})),
@@ -334,7 +315,6 @@ EXAMPLES = [
     example("no line where none can be written", True, keeps_status, SILENT, FAULT),
     example("a line where none can be written", False, keeps_status, replace(SILENT, error=FAULT.error), FAULT),
     example("fewer requests than there are at least", False, MEMORY, REFUSED, least=2),
-    example("requests without an end", False, MEMORY, REFUSED, more=[REFUSED] * MOST_REQUESTS),
 ]
 
 
