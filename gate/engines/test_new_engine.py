@@ -14,7 +14,6 @@ from fixtures import TOP, folder, needs, parameterized, run, write
 from rows import rows
 
 ENGINE, TESTS = "crates/example_engine/src", "crates/test_example_engine/src"
-NO_WORD = None
 
 
 def makes(words: str, page: str, given: str, *names: str) -> tuple:
@@ -22,7 +21,7 @@ def makes(words: str, page: str, given: str, *names: str) -> tuple:
 
 
 def refuses(words: str, fault: str, status: int = 1) -> tuple:
-    return repr(words), [] if words is None else words.split(" "), fault, status
+    return repr(words), words.split(" "), fault, status
 
 
 def fails(words: str, fault: str) -> tuple:
@@ -40,59 +39,44 @@ def files(at: str) -> Dict[str, str]:
     return found
 
 
+@needs("rt")
 class NewEngine(unittest.TestCase):
     maxDiff = None
+
+    def setUp(self) -> None:
+        self.at = folder(self)
+        for path in (ENGINE, TESTS, "tools"):
+            shutil.copytree(f"{TOP}/{path}", f"{self.at}/{path}")
+        write(f"{self.at}/crates.txt", "tk_low: indexmap  # the first\ntest_tested tests_may=Wait: tk_low")
+        write(f"{self.at}/.gitignore", "out/\n")
+        for crate in ("tk_low", "test_tested", "unlisted"):
+            os.makedirs(f"{self.at}/crates/{crate}/src")
+        self.before = files(self.at)
 
     @parameterized([row for row in ROWS if len(row) == 5], name=itemgetter(0))
     def test_makes(self, row):
         _, words, page, given, names = row
-        at = self.tree()
-        before = files(at)
-        ran = run([f"{at}/tools/new_engine", *words])
+        ran = run([f"{self.at}/tools/new_engine", *words])
         self.assertEqual((ran.status, ran.error), (0, b""))
-        for part in (b"cd crates/test_front_desk && rt fmt && rt try --test", b"cd crates/front_desk && rt fmt && rt check"):
-            self.assertIn(part, ran.output)
-        made = {path: text for path, text in files(at).items() if text != before.get(path)}
+        made = {path: text for path, text in files(self.at).items() if text != self.before.get(path)}
         lines = "front_desk: engine_testkit\ntest_front_desk tests_may=Threads+Wait: front_desk engine_testkit\n"
-        self.assertEqual(made.pop("crates.txt"), before["crates.txt"] + "\n" + lines)
+        self.assertEqual(made.pop("crates.txt"), self.before["crates.txt"] + "\n" + lines)
         self.assertIn("`crates/test_front_desk`", made.pop("crates/front_desk/README.md"))
-        pages = {example: made.pop(f"{path}/engine.rt") for path, example in (("crates/front_desk/src", ENGINE), ("crates/test_front_desk/src", TESTS))}
+        pages = {ENGINE: made.pop("crates/front_desk/src/engine.rt"), TESTS: made.pop("crates/test_front_desk/src/engine.rt")}
         self.assertEqual([name for name in names if not any(name in it for it in pages.values())], [])
         for example, text in pages.items():
             for name, old in names.items():
                 text = text.replace(name, old)
-            self.assertEqual(text, before[f"{example}/{page}"])
+            self.assertEqual(text, self.before[f"{example}/{page}"])
         self.assertTrue(made.pop("crates/front_desk/src/lib.rt").endswith(f"#![tactic(auto)]\n\nmod engine;\n\npub use engine::{given};\n"))
         self.assertIn("#![tactic(auto)]\n\n#[cfg(test)]\nmod engine;\n", made.pop("crates/test_front_desk/src/lib.rt"))
         self.assertEqual(made, {})
 
     @parameterized([row for row in ROWS if len(row) == 4], name=itemgetter(0))
     def test_refuses(self, row):
-        self.check_refused(*row[1:])
-
-    @needs("rt")
-    def test_refuses_libraries_of_the_toolchain(self):
-        self.check_refused(["serde_json"], "serde_json is a library of the toolchain", 1)
-
-    def test_another_example(self):
-        """The pages have to have the names that are replaced."""
-        self.check_refused(["desk"], "evens.rt has no EvenNumbers", 70, {f"{ENGINE}/evens.rt": "//! Other tests.\n"})
-
-    def tree(self) -> str:
-        at = folder(self)
-        for path in (ENGINE, TESTS, "tools"):
-            shutil.copytree(f"{TOP}/{path}", f"{at}/{path}")
-        write(f"{at}/crates.txt", "tk_low: indexmap  # the first\ntest_tested tests_may=Wait: tk_low")
-        os.makedirs(f"{at}/crates/unlisted")
-        return at
-
-    def check_refused(self, words, fault, status, changed=()):
         """The script says why in one line, and changes nothing."""
-        at = self.tree()
-        for path in changed:
-            write(f"{at}/{path}", changed[path])
-        before = files(at)
-        ran = run([f"{at}/tools/new_engine", *words])
+        _, words, fault, status = row
+        ran = run([f"{self.at}/tools/new_engine", *words])
         self.assertEqual((ran.status, ran.output, ran.error.count(b"\n")), (status, b"", 1), ran.error)
         self.assertIn(fault, ran.error.decode())
-        self.assertEqual(files(at), before)
+        self.assertEqual(files(self.at), self.before)
