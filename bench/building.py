@@ -6,6 +6,7 @@ import shutil
 import subprocess
 import sys
 import tempfile
+from pathlib import Path
 from typing import Callable, List, Sequence
 
 BENCH = os.path.dirname(os.path.realpath(__file__))
@@ -77,8 +78,7 @@ def compile_on_serde(folder: str, source: str) -> str:
     """Compiles a plain Rust program of `bench/` on serde_json as Debian has it; returns its path."""
     for path, text in (("Cargo.toml", MANIFEST), (".cargo/config.toml", f"source = {SOURCE}")):
         os.makedirs(os.path.dirname(f"{folder}/plain/{path}"), exist_ok=True)
-        with open(f"{folder}/plain/{path}", "w", encoding="utf-8") as file:
-            file.write(text)
+        Path(f"{folder}/plain/{path}").write_text(text, encoding="utf-8")
     os.makedirs(f"{folder}/plain/src")
     shutil.copy(f"{BENCH}/{source}", f"{folder}/plain/src/main.rs")
     call(["cargo", "build", "--release", "--offline"], f"{folder}/plain")

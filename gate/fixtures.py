@@ -12,7 +12,8 @@ import subprocess
 import tempfile
 import unittest
 from dataclasses import dataclass
-from typing import Callable, Iterable, Iterator, List, Sequence, Union
+from pathlib import Path
+from typing import Callable, Iterable, Iterator, Sequence, Union
 
 TOP = os.path.dirname(os.path.dirname(os.path.realpath(__file__)))
 
@@ -99,8 +100,7 @@ def folder(test: unittest.TestCase) -> str:
 
 def write(path: str, text: str, mode: int = 0o644) -> None:
     os.makedirs(os.path.dirname(path), exist_ok=True)
-    with open(path, "w", encoding="utf-8") as file:
-        file.write(text)
+    Path(path).write_text(text, encoding="utf-8")
     os.chmod(path, mode)
 
 

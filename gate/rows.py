@@ -1,6 +1,7 @@
 """Tables and texts that stand in files of their own."""
 
 import re
+from pathlib import Path
 from typing import Dict, List
 
 NAME = re.compile(r"(?<!\S)[A-Z][A-Z0-9_]{2,}(?!\S)")
@@ -14,8 +15,8 @@ def rows(path: str, names: Dict[str, object]) -> List:
     module is what the module calls so, `""` is an empty field, `␊` a line feed in one, and a line that begins with `# ` is a comment.
     """
     found, make, title = [], None, ""
-    with open(path[: -len(".py")] + ".rows", encoding="utf-8", newline="\n") as file:
-        lines = re.sub("(?m)^# .*\n", "", file.read()).replace("\n> ", "\0").split("\n")
+    text = Path(path[: -len(".py")] + ".rows").read_bytes().decode()
+    lines = re.sub("(?m)^# .*\n", "", text).replace("\n> ", "\0").split("\n")
     for line in filter(None, lines):
         section = re.fullmatch(r"\[(\w+)\] ?(.*)", line)
         if section:
@@ -39,6 +40,5 @@ def value_of(field: str, names: Dict[str, object]) -> object:
 
 def texts(path: str) -> Dict[str, str]:
     """The texts of a file by their names; above each stands a line `== NAME`."""
-    with open(path, encoding="utf-8", newline="\n") as file:
-        parts = re.split("(?m)^== (.*)\n", file.read())[1:]
+    parts = re.split("(?m)^== (.*)\n", Path(path).read_bytes().decode())[1:]
     return dict(zip(parts[::2], parts[1::2]))

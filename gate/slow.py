@@ -8,7 +8,7 @@ tests are joined to one, of which each is a module.
 import os
 import re
 import shutil
-from glob import glob
+from pathlib import Path
 from typing import Dict, List, Sequence, Tuple
 
 LIST = "gate/slow_tests"
@@ -25,33 +25,30 @@ def copy_without(top: str, to: str) -> Tuple[Dict[str, List[str]], List[str]]:
         shutil.copy(name, to)
     left_out: Dict[str, List[str]] = {}
     unknown = []
-    with open(f"{top}/{LIST}", encoding="utf-8") as file:
-        for line in file.read().splitlines():
-            crate, test = line.split()
-            if leave_out(f"{to}/crates/{crate}/src", test):
-                left_out.setdefault(crate, []).append(test)
-            else:
-                unknown.append(line)
+    for line in Path(f"{top}/{LIST}").read_text(encoding="utf-8").splitlines():
+        crate, test = line.split()
+        if leave_out(f"{to}/crates/{crate}/src", test):
+            left_out.setdefault(crate, []).append(test)
+        else:
+            unknown.append(line)
     return left_out, unknown
 
 
 def leave_out(sources: str, test: str) -> bool:
     """Removes a test from the file of its module, and returns whether it was there."""
     *modules, name = test.split("::")
-    path = f"{sources}/{'/'.join(modules)}.rt"
-    if not os.path.exists(path):
+    path = Path(f"{sources}/{'/'.join(modules)}.rt")
+    if not path.exists():
         return False
-    with open(path, encoding="utf-8") as file:
-        text, number = re.subn(TEST.format(name), "", file.read())
-    with open(path, "w", encoding="utf-8") as file:
-        file.write(text)
+    text, number = re.subn(TEST.format(name), "", path.read_text(encoding="utf-8"))
+    path.write_text(text, encoding="utf-8")
     return number == 1
 
 
 def join(to: str, crates: Sequence[str]) -> str:
     """Makes one crate of these crates of the copy, where they are several, and returns its folder."""
-    with open(f"{to}/crates.txt", encoding="utf-8") as file:
-        lines = [line.partition("#")[0].partition(":") for line in file]
+    listed = Path(f"{to}/crates.txt").read_text(encoding="utf-8")
+    lines = [line.partition("#")[0].partition(":") for line in listed.splitlines()]
     named = {head.split()[0]: (head, libraries.split()) for head, _, libraries in lines if head.split()}
     may = {word for crate in crates for words in re.findall(r"tests_may=(\S+)", named[crate][0]) for word in words.split("+")}
     name = "_and_".join(crates)
@@ -59,16 +56,13 @@ def join(to: str, crates: Sequence[str]) -> str:
     if len(crates) == 1:
         return at
     head = f"{name} tests_may={'+'.join(sorted(may))}" if may else name
-    with open(f"{to}/crates.txt", "a", encoding="utf-8") as file:
-        file.write(f"\n{head}: {' '.join(dict.fromkeys(it for crate in crates for it in named[crate][1]))}\n")
+    below = " ".join(dict.fromkeys(it for crate in crates for it in named[crate][1]))
+    Path(f"{to}/crates.txt").write_text(f"{listed}\n{head}: {below}\n", encoding="utf-8")
     for crate in crates:
         shutil.copytree(f"{to}/crates/{crate}/src", f"{at}/src/{crate}")
         os.rename(f"{at}/src/{crate}/lib.rt", f"{at}/src/{crate}.rt")
-        for path in [f"{at}/src/{crate}.rt", *glob(f"{at}/src/{crate}/**/*.rt", recursive=True)]:
-            with open(path, encoding="utf-8") as file:
-                text = file.read().replace("crate::", f"crate::{crate}::").replace(ROOT, "")
-            with open(path, "w", encoding="utf-8") as file:
-                file.write(text)
-    with open(f"{at}/src/lib.rt", "w", encoding="utf-8") as file:
-        file.write(ROOT + "".join(f"#[cfg(test)]\nmod {crate};\n" for crate in crates))
+        for path in [Path(f"{at}/src/{crate}.rt"), *Path(f"{at}/src/{crate}").rglob("*.rt")]:
+            text = path.read_text(encoding="utf-8").replace("crate::", f"crate::{crate}::").replace(ROOT, "")
+            path.write_text(text, encoding="utf-8")
+    Path(f"{at}/src/lib.rt").write_text(ROOT + "".join(f"#[cfg(test)]\nmod {crate};\n" for crate in crates), encoding="utf-8")
     return at

@@ -8,6 +8,7 @@ import subprocess
 import time
 import unittest
 from operator import itemgetter
+from pathlib import Path
 from typing import Dict, Sequence
 
 from fixtures import TEST_CRATES, TOP, Ran, folder, parameterized, run, write
@@ -153,10 +154,7 @@ class Check(unittest.TestCase):
 
     def check_left(self, at: str, is_quick: bool, leaves: bool) -> None:
         """What `tools/package` asks for is left where all passed; else nothing is, also of an earlier run, save where nothing was proved."""
-        left = None
-        if os.path.exists(f"{at}/{RUN}"):
-            with open(f"{at}/{RUN}", encoding="utf-8") as file:
-                left = json.load(file)
+        left = json.loads(Path(f"{at}/{RUN}").read_text(encoding="utf-8")) if os.path.exists(f"{at}/{RUN}") else None
         if is_quick:
             self.assertEqual("an older run", left)
         elif leaves:

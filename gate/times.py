@@ -8,6 +8,7 @@ import os
 import re
 import threading
 from collections import Counter, defaultdict
+from pathlib import Path
 from typing import Dict, List, Optional, Tuple
 
 KINDS = ("proof", "tests", "wrong bodies", "runs")
@@ -21,8 +22,7 @@ def processes() -> Dict[int, Tuple[int, str, float]]:
     found = {}
     for name in filter(str.isdecimal, os.listdir("/proc")):
         try:
-            with open(f"/proc/{name}/stat", encoding="utf-8", errors="replace") as file:
-                fields = file.read().rpartition(")")[2].split()
+            fields = Path(f"/proc/{name}/stat").read_text(encoding="utf-8", errors="replace").rpartition(")")[2].split()
         except OSError:
             continue
         found[int(name)] = int(fields[1]), fields[19], sum(map(int, fields[11:15])) / TICKS
@@ -32,8 +32,7 @@ def processes() -> Dict[int, Tuple[int, str, float]]:
 def work_of(pid: int) -> Optional[Tuple[str, str]]:
     """The crate that a process works for, and the kind of its work, if it is one that is counted."""
     try:
-        with open(f"/proc/{pid}/cmdline", encoding="utf-8", errors="replace") as file:
-            words = file.read().split("\0")
+        words = Path(f"/proc/{pid}/cmdline").read_text(encoding="utf-8", errors="replace").split("\0")
         ran = RAN.search(words[0])
         if ran:
             return ran[1], "runs"

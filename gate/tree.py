@@ -1,6 +1,7 @@
 """The files of a repository and the crates of its crates.txt, for the modules that check sources and documents."""
 
 import os
+from pathlib import Path
 from typing import Dict, List
 
 NOT_READ = (".git", "out", "__pycache__")
@@ -22,11 +23,8 @@ class Tree:
 
     def text(self, path: str) -> str:
         """The text of a file; nothing where there is none."""
-        try:
-            with open(f"{self.top}/{path}", encoding="utf-8", errors="replace") as file:
-                return file.read()
-        except FileNotFoundError:
-            return ""
+        found = Path(f"{self.top}/{path}")
+        return found.read_text(encoding="utf-8", errors="replace") if found.exists() else ""
 
     def libraries_below(self, crate: str) -> List[str]:
         """The libraries of the repository below a crate, each once."""

@@ -9,6 +9,7 @@ import json
 import os
 import subprocess
 from dataclasses import asdict, dataclass
+from pathlib import Path
 from typing import Optional
 
 PROGRAM = "crates/testkit/out/testkit"
@@ -59,20 +60,17 @@ def state_of(top: str) -> State:
 
 
 def hash_of(path: str) -> str:
-    with open(path, "rb") as file:
-        return hashlib.sha256(file.read()).hexdigest()
+    return hashlib.sha256(Path(path).read_bytes()).hexdigest()
 
 
 def write(top: str, run: Run) -> None:
-    with open(f"{top}/{RUN}", "w", encoding="utf-8") as file:
-        json.dump(asdict(run), file)
+    Path(f"{top}/{RUN}").write_text(json.dumps(asdict(run)), encoding="utf-8")
 
 
 def read(top: str) -> Optional[Run]:
     """Reads the run that the gate left, if it left one and it is whole."""
     with contextlib.suppress(OSError, ValueError, TypeError):
-        with open(f"{top}/{RUN}", encoding="utf-8") as file:
-            run = Run(**json.load(file))
+        run = Run(**json.loads(Path(f"{top}/{RUN}").read_text(encoding="utf-8")))
         return run if run.passed > 0 and all(asdict(run).values()) else None
     return None
 

@@ -8,6 +8,7 @@ import hashlib
 import os
 import re
 import subprocess
+from pathlib import Path
 from typing import Dict, List
 
 import checked
@@ -25,11 +26,7 @@ def shell(top: str, line: str) -> "subprocess.CompletedProcess[str]":
 
 def read(path: str) -> bytes:
     """Returns the bytes of a file, or none where there is no file."""
-    try:
-        with open(path, "rb") as file:
-            return file.read()
-    except FileNotFoundError:
-        return b""
+    return Path(path).read_bytes() if os.path.exists(path) else b""
 
 
 def built(top: str) -> bytes:
@@ -76,8 +73,7 @@ def renew(top: str) -> Dict[str, bytes]:
     changed = differing(top, listener.compiler(), jar_of(top))
     os.makedirs(f"{top}/bin", exist_ok=True)
     for name, data in changed.items():
-        with open(f"{top}/bin/.{name}", "wb") as file:
-            file.write(data)
+        Path(f"{top}/bin/.{name}").write_bytes(data)
         os.chmod(f"{top}/bin/.{name}", 0o755 if name == PROGRAM else 0o644)
         os.replace(f"{top}/bin/.{name}", f"{top}/bin/{name}")
     return changed

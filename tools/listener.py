@@ -7,6 +7,7 @@ import shutil
 import subprocess
 import tempfile
 import zipfile
+from pathlib import Path
 from typing import Dict
 
 SOURCES = "examples/junit"
@@ -43,19 +44,14 @@ def classes(files: Dict[str, bytes]) -> Dict[str, bytes]:
     with tempfile.TemporaryDirectory(prefix="listener-") as room:
         for name in [it for it in files if it.startswith(f"{SOURCES}/")]:
             os.makedirs(os.path.dirname(f"{room}/{name}"), exist_ok=True)
-            with open(f"{room}/{name}", "wb") as file:
-                file.write(files[name])
+            Path(f"{room}/{name}").write_bytes(files[name])
         words = ["javac", "-encoding", "UTF-8", "-proc:none", "--release", "8", "-cp", ":".join(JARS), "-d", "classes"]
         words += ["-sourcepath", f"{SOURCES}:{SOURCES}/kit", *(f"{SOURCES}/testkit/{it}.java" for it in LISTENER)]
         ran = subprocess.run(words, cwd=room, capture_output=True, text=True, check=False)
         if ran.returncode:
             raise NotCompiled(f"the listener can't be compiled: {ran.stderr}")
         # (what stands for JUnit's kit is compiled beside it, and is not ours to give)
-        found = {}
-        for name in sorted(os.listdir(f"{room}/classes/testkit")):
-            with open(f"{room}/classes/testkit/{name}", "rb") as file:
-                found[f"testkit/{name}"] = file.read()
-        return found
+        return {f"testkit/{it.name}": it.read_bytes() for it in sorted(Path(f"{room}/classes/testkit").iterdir())}
 
 
 def make_jar(files: Dict[str, bytes]) -> bytes:

@@ -26,6 +26,7 @@ import tempfile
 from collections import Counter, defaultdict
 from dataclasses import dataclass, field
 from itertools import count
+from pathlib import Path
 from typing import Dict, Iterator, List, Optional, Sequence, Tuple
 
 HERE = os.path.dirname(os.path.realpath(__file__))
@@ -319,8 +320,7 @@ def page_of(data: Dict[str, object]) -> str:
     """The page, in ASCII letters: in its block of data no letter can end the block or begin markup."""
     parts, sources = {}, {}
     for kind in ("html", "css", "js"):
-        with open(f"{HERE}/timeline.{kind}", encoding="ascii") as file:
-            parts[kind] = file.read()
+        parts[kind] = Path(f"{HERE}/timeline.{kind}").read_text(encoding="ascii")
         # (how a policy names a text that may stand in the page)
         sources[kind] = f"'sha256-{base64.b64encode(hashlib.sha256(parts[kind].encode()).digest()).decode()}'"
     allowed = f"script-src {sources['js']}; style-src {sources['css']}"

@@ -15,6 +15,7 @@ import time
 from concurrent.futures import ThreadPoolExecutor
 from dataclasses import dataclass, replace
 from enum import Enum
+from pathlib import Path
 from typing import BinaryIO, Callable, List, Optional, Sequence, Tuple, Union
 
 from fixtures import Ran, run
@@ -66,17 +67,12 @@ def with_usage(line: bytes) -> bytes:
     """What is written on standard error with a fault line: where no command or no question is named, the page of usage stands below it."""
     if line not in (b"testkit: bad command line\n", b"testkit: unknown question\n"):
         return line
-    with open(USAGE, "rb") as page:
-        return line + page.read()
+    return line + Path(USAGE).read_bytes()
 
 
 @dataclass(frozen=True)
 class Case:
-    """One start of the program, and what has to come of it.
-
-    What is written on a closed stream, a full device or a pipe that nobody reads is not compared; of what is
-    written on a pipe that is cut, the first bytes are.
-    """
+    """One start of the program, and what has to come of it: of what is written on a pipe that is cut, the first bytes."""
 
     name: str
     words: Sequence[bytes]

@@ -13,7 +13,7 @@ PROGRAM = f"""#!/bin/sh
 case $1 in
 copy) cat 2>/dev/null || {{ echo "testkit: device failed" >&2; exit 3; }} ;;
 wait) exec cat ;;
-refuse) trap '' PIPE; echo "testkit: bad word 0" >&2; exit 2 ;;
+refuse) echo "testkit: bad word 0" >&2; exit 2 ;;
 first) head -c 1 ;;
 limits) ulimit -v; ulimit -s ;;
 streams) for it in 0 2; do
@@ -28,30 +28,22 @@ esac
 LARGE = b"x" * 3_000_000
 
 
-def failing(name, words=b"copy", data=b"a", **how):
-    return Case(name, [words], data, error=b"testkit: device failed\n", status=3, **how)
-
-
-def refused(name, data=b"", **how):
-    return Case(name, [b"refuse"], data, error=b"testkit: bad word 0\n", status=2, **how)
+def failing(name, data=b"a", **how):
+    return Case(name, [b"copy"], data, error=b"testkit: device failed\n", status=3, **how)
 
 
 RIGHT = [
     Case("words", [b"a b", b"", b"\xff"], b"", b"<a b><><\xff>"),
     Case("a large input", [b"copy"], lambda: LARGE, lambda: LARGE),
-    Case("a file", [b"copy"], b"ab", b"ab", standard_input=Input.FILE),
     Case("a pipe", [b"streams"], b"", b"pipe\npipe\n"),
     Case("a file that is one", [b"streams"], b"", b"file\npipe\n", standard_input=Input.FILE),
     Case("a folder that is one", [b"streams"], b"", b"folder\npipe\n", standard_input=Input.FOLDER),
     Case("streams that are closed", [b"streams"], b"", b"closed\nclosed\n", standard_input=Input.CLOSED, standard_error=Output.CLOSED),
-    Case("pieces", [b"copy"], b"ab" * 200, b"ab" * 200, standard_input=Input.PIECES),
     Case("pieces that come one by one", [b"reads"], b"a" * 200_000, b"True\n", standard_input=Input.PIECES),
     Case("a pipe that is filled at once", [b"reads"], b"a" * 200_000, b"False\n"),
     Case("an input that stays open", [b"first"], b"ab", b"a", standard_input=Input.OPEN),
-    refused("an input that stays open and isn't read", LARGE, standard_input=Input.OPEN),
-    *[failing(f"input {kind.name}", standard_input=kind) for kind in (Input.CLOSED, Input.FOLDER)],
     *[failing(f"output {kind.name}", standard_output=kind) for kind in (Output.CLOSED, Output.FULL, Output.BROKEN_PIPE)],
-    *[Case(f"error {kind.name}", [b"refuse"], b"", status=2, standard_error=kind) for kind in (Output.FULL, Output.BROKEN_PIPE)],
+    Case("an error to a full device", [b"refuse"], b"", status=2, standard_error=Output.FULL),
     failing("a pipe that is cut", data=LARGE, output=LARGE, standard_output=Output.CUT_PIPE),
     Case("limits", [b"limits"], b"", b"100000\n8192\n", memory=100_000),
     ThreadCount(Case("threads", [b"threads", b"2"], b""), 3),
@@ -63,7 +55,6 @@ WRONG = [
     (Case("another large output", [b"copy"], LARGE, LARGE[:-1] + b"y"), "they part at byte 2999999"),
     (Case("another error", [b"refuse"], b"", status=2), "error b'testkit: bad word 0\\n', wanted b''"),
     (failing("another beginning", data=LARGE, output=b"y", standard_output=Output.CUT_PIPE), "output "),
-    (failing("no failing input"), "status 0"),
     (Case("an input whose end is waited for", [b"wait"], b"a", b"a", standard_input=Input.OPEN), "status -9"),
     (ThreadCount(Case("too many threads", [b"threads", b"2"], b""), 2), "3 threads, wanted 2"),
     (ThreadCount(Case("too few threads", [b"refuse"], b"", error=b"testkit: bad word 0\n", status=2), 3), "threads, wanted 3"),
@@ -108,6 +99,5 @@ class OfRows(unittest.TestCase):
         wanted = [("title, one", "a b", "text\nmore␊lines"), ("title, two", "", "a|b text\n c"), "X; y", "X; y"]
         self.assertEqual(wanted, self.made(TABLE))
 
-    @parameterized([("a name that isn't known", "TEXT\n", "TEXTS\n"), ("a maker that isn't known", "[pair]", "[pairs]")], name=lambda row: row[0])
-    def test_wrong(self, row):
-        self.assertRaises(KeyError, self.made, TABLE.replace(*row[1:]))
+    def test_wrong(self):
+        self.assertRaises(KeyError, self.made, TABLE.replace("[pair]", "[pairs]"))

@@ -21,6 +21,7 @@ import sys
 import time
 from dataclasses import dataclass, fields
 from operator import itemgetter
+from pathlib import Path
 from typing import BinaryIO, Callable, Iterable, Iterator, List, Sequence, Tuple
 
 from fixtures import PROGRAM, TOP, WithProgram, folder, parameterized
@@ -102,8 +103,7 @@ class Pair:
         """The least seconds of some runs of the first, by those of the other; they run in turn, so that both meet the same load."""
         paths = [f"{room}/{number}" for number in range(len(self.records))]
         for path, data in zip(paths, self.records):
-            with open(path, "wb") as file:
-                file.write(data())
+            Path(path).write_bytes(data())
         starts = [(self.words, paths[0]), (self.other, paths[-1])]
         rounds = [[seconds_of_question([program, *words], path) for words, path in starts] for _ in range(ROUNDS)]
         ours, theirs = map(min, zip(*rounds))
@@ -365,8 +365,7 @@ def in_pieces(source: BinaryIO, size: int) -> Iterator[BinaryIO]:
 def costs_of(row: Row, program: str, library: str, room: str) -> Tuple[Costs, int, str]:
     """Runs a row; answers its costs, its status, and what it wrote first. The status is -1 where not one run alone was counted."""
     status = -1
-    with open(f"{room}/input", "wb") as file:
-        file.write(row.input())
+    Path(f"{room}/input").write_bytes(row.input())
     with open(f"{room}/counts", "w+b") as counts, open(f"{room}/wrote", "w+b") as wrote, open(f"{room}/input", "rb") as source:
         environment = {"PATH": "/usr/bin:/bin", "LD_PRELOAD": library, "COUNTED_TO": str(counts.fileno())}
         if row.late:

@@ -4,6 +4,7 @@ import glob
 import os
 import re
 from dataclasses import dataclass
+from pathlib import Path
 from typing import Iterator, List, Tuple
 
 INDENT = " " * 4
@@ -38,8 +39,4 @@ class Document:
 def documents_of(top: str) -> List[Document]:
     """README.md, docs/*.md and crates/*/README.md, as far as they are there."""
     paths = [f"{top}/README.md", *sorted(glob.glob(f"{top}/docs/*.md")), *sorted(glob.glob(f"{top}/crates/*/README.md"))]
-    found = []
-    for path in filter(os.path.isfile, paths):
-        with open(path, encoding="utf-8") as file:
-            found.append(Document(os.path.relpath(path, top), file.read()))
-    return found
+    return [Document(os.path.relpath(path, top), Path(path).read_text(encoding="utf-8")) for path in filter(os.path.isfile, paths)]

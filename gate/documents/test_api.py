@@ -4,6 +4,7 @@ import os
 import shutil
 import unittest
 from operator import itemgetter
+from pathlib import Path
 
 from fixtures import TOP, folder, parameterized, run, write
 from rows import rows
@@ -24,8 +25,7 @@ class Api(unittest.TestCase):
     maxDiff = None
 
     def setUp(self):
-        with open(f"{TOP}/docs/API.md", encoding="utf-8") as file:
-            self.page = file.read()
+        self.page = Path(f"{TOP}/docs/API.md").read_text(encoding="utf-8")
 
     def test_page(self):
         """`tools/api > docs/API.md` renews the page."""
@@ -40,8 +40,7 @@ class Api(unittest.TestCase):
             if name.startswith(("tk_", "testkit_questions", "engine_")):
                 shutil.copytree(f"{TOP}/crates/{name}/src", f"{at}/crates/{name}/src")
         shutil.copytree(f"{TOP}/tools", f"{at}/tools")
-        with open(f"{at}/{path}", encoding="utf-8") as file:
-            text = file.read()
+        text = Path(f"{at}/{path}").read_text(encoding="utf-8")
         self.assertEqual(text.count(old), 1)
         write(f"{at}/{path}", text.replace(old, new))
         ran = run([f"{at}/tools/api"])

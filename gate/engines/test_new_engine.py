@@ -8,6 +8,7 @@ import os
 import shutil
 import unittest
 from operator import itemgetter
+from pathlib import Path
 from typing import Dict
 
 from fixtures import TOP, folder, needs, parameterized, run, write
@@ -32,11 +33,8 @@ ROWS = rows(__file__, globals())
 
 
 def files(at: str) -> Dict[str, str]:
-    found = {}
-    for path in (f"{place}/{name}" for place, _, names in os.walk(at) for name in names):
-        with open(path, encoding="utf-8") as file:
-            found[os.path.relpath(path, at)] = file.read()
-    return found
+    paths = [f"{place}/{name}" for place, _, names in os.walk(at) for name in names]
+    return {os.path.relpath(path, at): Path(path).read_text(encoding="utf-8") for path in paths}
 
 
 @needs("rt")

@@ -5,6 +5,7 @@ import os
 import re
 from dataclasses import dataclass, field
 from itertools import accumulate
+from pathlib import Path
 from typing import Dict, List, Sequence
 
 from records import HEADER, HEADER_WITH_LOCKS, check_lines, check_record
@@ -25,8 +26,7 @@ class Case:
 
 def read(path: str) -> str:
     """The text of a file; what isn't UTF-8 differs from any text that is wanted."""
-    with open(path, encoding="utf-8", errors="surrogateescape", newline="") as file:
-        return file.read()
+    return Path(path).read_bytes().decode(errors="surrogateescape")
 
 
 def unfolded(line: str) -> str:

@@ -144,8 +144,7 @@ class OfSamples(WithClasses, fixtures.WithProgram):
         path = f"{self.out}/{name}.record"
         if name == "halt":
             # A longer record of an earlier process: a run that is cut off leaves nothing of it either.
-            with open(path, "wb") as file:
-                file.write(f"{HEADER}\n".encode() * LONGER)
+            fixtures.write(path, f"{HEADER}\n" * LONGER)
         counts = self.classes.run("RunSamples", name, path).split()
         lines, record = self.lines(f"{name}.record"), cases.read(path).encode()
         # (no report and no file is counted)

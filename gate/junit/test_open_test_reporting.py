@@ -8,6 +8,7 @@ import os
 import resource
 import unittest
 from operator import itemgetter
+from pathlib import Path
 
 import cases
 import fixtures
@@ -70,8 +71,7 @@ class OfReports(unittest.TestCase):
     maxDiff = None
 
     def test_report_of_junit(self):
-        with open(f"{cases.HERE}/open-test-reporting.xml", "rb") as file:
-            ran = convert(file.read())
+        ran = convert(Path(f"{cases.HERE}/open-test-reporting.xml").read_bytes())
         self.assertEqual((ran.status, ran.output.decode(), ran.error), (0, cases.read(f"{cases.HERE}/open-test-reporting.record"), b""))
 
     @parameterized(ROWS, name=itemgetter(0))

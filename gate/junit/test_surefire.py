@@ -9,6 +9,7 @@ import unittest
 from collections import Counter
 from dataclasses import dataclass
 from importlib.machinery import SourceFileLoader
+from pathlib import Path
 
 import fixtures
 import java
@@ -47,11 +48,6 @@ def of_build(name):
     return read(f"{java.HERE}/surefire/{name}")
 
 
-def read_bytes(path):
-    with open(path, "rb") as file:
-        return file.read()
-
-
 def version_of(name):
     """The version of an artifact in Debian's repository, if it is there."""
     found = [it for it in os.listdir(f"{REPOSITORY}/{name}") if it[0].isdigit()] if os.path.isdir(f"{REPOSITORY}/{name}") else []
@@ -69,8 +65,7 @@ def write_repository(jar, folder):
     package = SourceFileLoader("package", f"{fixtures.TOP}/tools/package").load_module()
     for name, member in package.in_maven(jar, read(f"{fixtures.TOP}/VERSION").strip()).items():
         os.makedirs(os.path.dirname(f"{folder}/{name}"), exist_ok=True)
-        with open(f"{folder}/{name}", "wb") as file:
-            file.write(member.data)
+        Path(f"{folder}/{name}").write_bytes(member.data)
 
 
 @java.needs_junit
@@ -86,7 +81,7 @@ class OfSurefire(unittest.TestCase):
         cls.top = os.path.realpath(cls.room.name)
         cls.addClassCleanup(cls.room.cleanup)
         java.with_service(java.compiled(f"{cls.top}/classes", with_tests=False), f"{cls.top}/listener")
-        write_repository(read_bytes(shutil.make_archive(f"{cls.top}/listener", "zip", f"{cls.top}/listener")), cls.top)
+        write_repository(Path(shutil.make_archive(f"{cls.top}/listener", "zip", f"{cls.top}/listener")).read_bytes(), cls.top)
         os.makedirs(f"{cls.top}/target/test-classes")
         for name in CLASSES:
             fixtures.write(f"{cls.top}/{name}Test.java", of_build("Test.java").format(name))

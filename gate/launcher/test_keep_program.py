@@ -5,6 +5,7 @@ import shutil
 import sys
 import unittest
 import zipfile
+from pathlib import Path
 from typing import Dict
 
 import listener
@@ -30,8 +31,7 @@ class Keeper(Repository):
         return run([self.path("tools/keep_program")], env={**os.environ, "PATH": f"{self.commands}:{path}"})
 
     def read(self, name: str) -> bytes:
-        with open(self.path(f"bin/{name}"), "rb") as file:
-            return file.read()
+        return Path(self.path(f"bin/{name}")).read_bytes()
 
     def made(self) -> Dict[str, bytes]:
         return {name: self.read(name) for name in sorted(os.listdir(self.path("bin")))} if os.path.isdir(self.path("bin")) else {}

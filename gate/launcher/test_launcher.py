@@ -9,6 +9,7 @@ import sys
 import time
 import unittest
 from operator import itemgetter
+from pathlib import Path
 
 from fixtures import TOP, Ran, folder, needs, parameterized, run, write
 
@@ -124,8 +125,7 @@ class Repository:
         return run(["/bin/sh", "-c", f'exec "$@" {streams}', "sh", self.path("testkit"), *words], input, env=environment, **how)
 
     def given(self) -> bytes:
-        with open(self.path("input"), "rb") as file:
-            return file.read()
+        return Path(self.path("input")).read_bytes()
 
 
 LOW, PROOF = "crates/tk_low/src/lib.rt", "crates/tk_high/proofs/Proof.antt"
@@ -210,9 +210,9 @@ class Launcher(unittest.TestCase):
         self.it.unprove()
         self.it.answers(*row)
         self.assert_tried(self.it.call(*WORDS, input=BINARY), *row)
-        with open(self.it.path("call"), encoding="utf-8") as file:
-            # (rt takes only what a pipe gives without a pause, so it is given a file)
-            self.assertEqual([self.it.path("crates/testkit"), ["try", "--seconds", "3600", "--", *WORDS], True], json.load(file))
+        # (rt takes only what a pipe gives without a pause, so it is given a file)
+        called = [self.it.path("crates/testkit"), ["try", "--seconds", "3600", "--", *WORDS], True]
+        self.assertEqual(called, json.loads(Path(self.it.path("call")).read_text(encoding="utf-8")))
         self.assertTrue(self.it.given() == BINARY)
 
     def test_inputs(self) -> None:

@@ -8,6 +8,7 @@ import re
 import shutil
 import unittest
 from operator import itemgetter
+from pathlib import Path
 from typing import List
 
 from fixtures import PROGRAM, TOP, WithProgram, folder, parameterized, run
@@ -53,11 +54,9 @@ class Calls(WithProgram):
     def test_program(self, row) -> None:
         words, name, status, output = row
         trace = f"{folder(self)}/trace"
-        with open(f"{TOP}/{name}", "rb") as file:
-            ran = run([*STRACE, trace, PROGRAM, *words.split()], file.read())
+        ran = run([*STRACE, trace, PROGRAM, *words.split()], Path(f"{TOP}/{name}").read_bytes())
         self.assertEqual((ran.status, ran.output[: len(output)]), (status, output), ran)
-        with open(trace, encoding="utf-8", errors="replace") as file:
-            self.assertEqual(others(file.read()), [])
+        self.assertEqual(others(Path(trace).read_text(encoding="utf-8", errors="replace")), [])
 
 
 STARTED = '7 execve("/a/testkit", ["testkit"], 0x7ffe /* 2 vars */) = 0\n'

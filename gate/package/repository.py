@@ -1,6 +1,7 @@
 """A small repository with what `tools/package` packs, and with what a run of the gate that passed leaves."""
 
 import os
+from pathlib import Path
 from typing import Dict
 
 import checked
@@ -26,8 +27,7 @@ AUTHOR = {
 
 
 def read(path: str) -> bytes:
-    with open(path, "rb") as file:
-        return file.read()
+    return Path(path).read_bytes()
 
 
 class Repository:
@@ -45,8 +45,7 @@ class Repository:
         return f"{self.at}/{name}"
 
     def write(self, name: str, data: bytes) -> None:
-        with open(self.path(name), "wb") as file:
-            file.write(data)
+        Path(self.path(name)).write_bytes(data)
 
     def git(self, *words: str) -> str:
         settings = ("-c", "commit.gpgSign=false", "-c", "core.hooksPath=/dev/null")

@@ -7,6 +7,7 @@ import json
 import os
 import re
 from operator import itemgetter
+from pathlib import Path
 
 from fixtures import PROGRAM, TOP, WithProgram, folder, needs, parameterized, run, write
 
@@ -206,8 +207,7 @@ class Browser(WithProgram):
     def setUpClass(cls):
         super().setUpClass()
         cls.opened = cls.open(MIXED, "")
-        with open(f"{HERE}/seen.js", encoding="utf-8") as file:
-            looked = cls.open(MIXED, file.read())
+        looked = cls.open(MIXED, Path(f"{HERE}/seen.js").read_text(encoding="utf-8"))
         found = re.search(rb'data-saw="([^"]*)"', looked.output)
         assert found, looked
         cls.saw = json.loads(html.unescape(found[1].decode()))
@@ -223,8 +223,7 @@ class Browser(WithProgram):
             page = page.replace("script-src ", f"script-src 'sha256-{source}' ").replace("</body>", f"<script>{script}</script></body>")
         test = cls("test_opens")
         path = f"{folder(test)}/page.html"
-        with open(path, "w", encoding="utf-8") as file:
-            file.write(page)
+        write(path, page)
         try:
             return run([*BROWSER, f"--user-data-dir={path}.profile", f"file://{path}"])
         finally:
