@@ -30,6 +30,11 @@ class Documents(unittest.TestCase):
     def test_quotes(self, quote):
         self.assertEqual(quote[1], "")
 
+    def test_api(self):
+        """`tools/api > docs/API.md` renews the page."""
+        ran = run([f"{TOP}/tools/api"])
+        self.assertEqual((ran.status, ran.output.decode(), ran.error), (0, TREE.text("docs/API.md"), b""))
+
     @needs("rt")
     def test_kit(self):
         """README.md names a kit with the logic of the one here. (Kits with one logic differ in what stands around the prover.)"""
