@@ -1,9 +1,9 @@
 //! Each fault of a plan in code, and which comes first.
 use std::alloc::{AllocError, Global};
-use tk_events::Status;
 use tk_ids::LockMode;
 use tk_plan_code::{ExecutionMode, PlanNode};
-use tk_plan_reading::build_plan;
+use tk_plan_json_members::PlanFault;
+use tk_plan_reading::{build_plan, read_plan};
 
 type Node = Result<PlanNode<'static>, AllocError>;
 
@@ -47,14 +47,7 @@ fn with_key_twice(alloc: Global, node: PlanNode<'static>, key: &'static str) -> 
 fn faults_of_one_node(rt: HostRuntime) {
     let alloc = rt.alloc();
     let no_value = Ok(PlanNode::test(alloc, ("engine", ""), "e"));
-    let message = Ok(root(alloc).outcome(Status::Successful, Some("fine")));
     assert!(rt; matches!(is_refused(alloc, no_value, "Id(Empty)"), Ok(true)));
-    assert!(rt;
-        matches!(
-            is_refused(alloc, message, "Field(\"/root/result/message\")"),
-            Ok(true)
-        )
-    );
     assert!(rt;
         matches!(
             is_refused(alloc, root(alloc).file(""), "Field(\"/root/files/0\")"),
@@ -71,6 +64,29 @@ fn faults_of_one_node(rt: HostRuntime) {
             Ok(true)
         )
     );
+}
+
+// Whether the JSON of a plan whose root has this result is refused, for the member at this path.
+fn is_result_refused(alloc: Global, value: &str, path: &str) -> Result<bool, AllocError> {
+    let heading = "\"type\":\"container\",\"segment\":[\"engine\",\"e\"],\"name\":\"e\"";
+    let text = format!(in alloc; "{{\"version\":2,\"root\":{{{heading},\"result\":{value}}}}}")?;
+    match read_plan(alloc, text.as_bytes()) {
+        Err(PlanFault::Field(at)) => Ok(at.as_str() == path),
+        _ => Ok(false),
+    }
+}
+
+/// A plan in code has no such node; its JSON is refused.
+#[test]
+fn a_success_with_a_message(rt: HostRuntime) -> Result<(), AllocError> {
+    let alloc = rt.alloc();
+    let alone = "{\"status\":\"successful\",\"message\":\"fine\"}";
+    assert!(rt; is_result_refused(alloc, alone, "/root/result/message")?);
+    let with_more = "{\"status\":\"successful\",\"message\":\"fine\",\"more\":1}";
+    assert!(rt; is_result_refused(alloc, with_more, "/root/result/more")?);
+    let without_text = "{\"status\":\"successful\",\"message\":null}";
+    assert!(rt; is_result_refused(alloc, without_text, "/root/result/message")?);
+    Ok(())
 }
 
 #[test]

@@ -1,6 +1,5 @@
 //! The node that a fault of a plan in code names: the first one in preorder that has a fault.
 use std::alloc::{AllocError, Global};
-use tk_events::Status;
 use tk_ids::LockMode;
 use tk_plan_code::{ExecutionMode, PlanNode};
 use tk_plan_reading::build_plan;
@@ -24,12 +23,11 @@ fn is_shown(alloc: Global, node: Node, text: &str) -> Result<bool, AllocError> {
     }
 }
 
-// The second of two tests has a message, and the third has a fault too.
-fn with_message(alloc: Global) -> Node {
-    let succeeded = test(alloc, "2").outcome(Status::Successful, Some("fine"));
+// The second of three tests has a file without a path, and the third has a fault too.
+fn with_empty_path(alloc: Global) -> Node {
     root(alloc)
         .child(test(alloc, "1"))?
-        .child(succeeded)?
+        .child(test(alloc, "2").file("")?)?
         .child(test(alloc, ""))
 }
 
@@ -79,8 +77,8 @@ fn locked(alloc: Global) -> Node {
 #[test]
 fn the_first_node_with_a_fault(rt: HostRuntime) -> Result<(), AllocError> {
     let alloc = rt.alloc();
-    let message = "plan member /root/children/1/result/message is bad, at node [engine:e]/[t:2]";
-    assert!(rt; is_shown(alloc, with_message(alloc), message)?);
+    let path = "plan member /root/children/1/files/0 is bad, at node [engine:e]/[t:2]";
+    assert!(rt; is_shown(alloc, with_empty_path(alloc), path)?);
     let twice = "entry key twice, at node [engine:e]/[class:B]/[t:1]";
     assert!(rt; is_shown(alloc, with_key_twice(alloc), twice)?);
     let alike = "plan table is refused, at node [engine:e]/[t:1]";

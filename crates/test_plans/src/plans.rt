@@ -1,7 +1,7 @@
 //! Plans in code say what the same plans in JSON say.
 use crate::shown_plans::shown;
 use std::alloc::{AllocError, Global};
-use tk_events::Status;
+use tk_events::Outcome;
 use tk_ids::{DType, LockMode, UniqueId};
 use tk_plan::Plan;
 use tk_plan_code::{ExecutionMode, PlanNode};
@@ -19,7 +19,7 @@ fn method(alloc: Global) -> PlanNode<'static> {
 
 /// The demo plan.
 pub fn demo(alloc: Global) -> Result<PlanNode<'static>, AllocError> {
-    let failing = method(alloc).outcome(Status::Failed, Some("boom"));
+    let failing = method(alloc).outcome(Outcome::failed(alloc, "boom")?);
     let a = class(alloc, "A").child(method(alloc))?;
     let b = class(alloc, "B").child(failing)?;
     let c = class(alloc, "C").skip("off");
@@ -114,7 +114,7 @@ fn locked(alloc: Global) -> Result<PlanNode<'static>, AllocError> {
     PlanNode::container(alloc, ("c", "1"), "one")
         .mode(ExecutionMode::Concurrent)
         .isolated()
-        .outcome(Status::Failed, None)
+        .outcome(Outcome::Failed(None))
         .lock("db", LockMode::Read)?
         .lock("net", LockMode::ReadWrite)?
         .lock("global", LockMode::Read)?
@@ -130,7 +130,7 @@ fn each_member(alloc: Global) -> Result<PlanNode<'static>, AllocError> {
         .entry(Vec::new(alloc))?
         .file("out/a")?
         .file("out/b")?
-        .outcome(Status::Aborted, Some("m"))
+        .outcome(Outcome::aborted(alloc, "m")?)
         .child(locked(alloc)?)?
         .child(two)
 }
