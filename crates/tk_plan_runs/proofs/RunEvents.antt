@@ -1,13 +1,11 @@
 -- What was written of a plan's run is the plan's report.
-use Rattle.std.proofs.Common.{◌≡◌, ◌≢◌, ◌<◌, ◌≤◌, ◌⊎◌, ℕ, List, Option, Result, Ok, Err, length, refl, ap, ◌∙◌, subst, arith, inl, inr, ⊎_elim}
+use Rattle.std.proofs.Common.{◌≡◌, ◌≢◌, ◌<◌, ◌≤◌, ◌⊎◌, ℕ, List, Option, Result, Ok, Err, refl, ap, ◌∙◌, subst, arith, inl, inr, ⊎_elim}
 use Rattle.std.proofs.lemmas.Bool.{cases_lt}
 use Rattle.std.specs.Io.KnownBytes.{Appends}
 use Rattle.tk_base.specs.declared.limits.TheConstants.{MAX_WORKERS}
 use Rattle.std.specs.Prelude.{IfErr, IsErrOf}
 use Rattle.tk_record.specs.Recorded.{Recorded}
 use Rattle.tk_streams.specs.Stream.{AppendsPrefix}
-use Rattle.tk_plan.specs.Cutting.{units_of}
-use Rattle.tk_plan.specs.Trees.{forest}
 use Rattle.tk_plan.specs.Planned.{Outline}
 use Rattle.tk_plan_reading.specs.PlanAnswers.{plan_in, Answered}
 use Rattle.tk_plan_json_members.specs.declared.faults.PlanFault.{PlanFault}
