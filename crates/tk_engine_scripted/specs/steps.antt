@@ -1,23 +1,20 @@
 -- What private clauses and proofs alone name.
 use Rattle.std.specs.Prelude.{ℕ, ◌+◌, ◌==◌, nat_lt, nat_eq, if◌then◌else◌, List, [], ◌∷◌, Option}
-use Rattle.std.specs.Prelude.{Some, None, ◌≡◌, ◌<◌, ◌++◌, length, Ok, slice_get}
+use Rattle.std.specs.Prelude.{Some, None, ◌≡◌, ◌++◌, length, Ok, slice_get}
 use Rattle.std.specs.Option.{option_or}
 use Rattle.indexmap.specs.IndexMap.{get}
 use Rattle.tk_engine_scripted.specs.declared.keys.Keys.{Keys}
 use Rattle.tk_ids.specs.declared.descriptors.Descriptor.{Descriptor}
 use Rattle.tk_events.specs.declared.events.Event.{Event}
-use Rattle.tk_events.specs.Registration.{registered_key}
 use Rattle.tk_queue_session.specs.Senders.{SenderView, sends}
 use Rattle.tk_queue_session.specs.Registering.{IsRegisteredAs}
 use Rattle.tk_plan.specs.declared.trees.nodes.Node.{Node}
 use Rattle.tk_plan.specs.Numbers.{in_order}
 use Rattle.tk_plan.specs.Events.{event}
 use Rattle.tk_plan.specs.StepEvents.{kind_of, payload_of}
-use Rattle.tk_record.specs.Entries.{desc}
-use Rattle.tk_queue_session.specs.Emission.{entries_by, registrations}
 use Rattle.tk_plan.specs.declared.trees.nodes.NumberedNode.{NumberedNode}
 use Rattle.tk_plan.specs.declared.scripts.steps.Step.{Step}
-use Rattle.tk_plan_laws.specs.Scripts.{played, known_in}
+use Rattle.tk_plan_laws.specs.Scripts.{NextKeysAreFree, known_in, next_key, played}
 
 -- the key of a node, if it was noted
 abbrev pub kept : Keys → ℕ → Option ℕ
@@ -36,10 +33,6 @@ noted keys node key other = option_or (keys other) (if node == other then Some k
 -- registration
 abbrev pub key_found : ℕ → (ℕ → Option ℕ) → ℕ → Option ℕ
 key_found statics keys node = if nat_lt node statics then Some node else keys node
-
--- the key of the worker's next registration
-abbrev pub next_key : ℕ → List Event → ℕ
-next_key worker sent = registered_key worker (registrations sent)
 
 -- what a worker plays a unit's script with: a plan's nodes and table, its number, and what it had
 -- sent before
@@ -63,9 +56,7 @@ pub record IsPlayed (b : Begun) (prefix : List Step) (now : List Event) (keys : 
     Type 0 where
   pub emitted : now ≡ b.sent ++ played b.nodes (length b.table) (first_key b) [] prefix
   pub keys_are : (node : ℕ) → keys node ≡ key_in (first_key b) (known_in [] prefix) node
-  pub unused : (j : ℕ) → j < length (known_in [] prefix)
-      → desc (record { table = b.table; entries = entries_by b.worker b.sent }) (first_key b + j)
-      ≡ None
+  pub unused : NextKeysAreFree b.table b.worker b.sent (length (known_in [] prefix))
 
 -- the sink took the event of a step under that key
 pub record IsEmitted (nodes : List NumberedNode) (old new : SenderView) (s : Step) (key : ℕ) :

@@ -7,8 +7,8 @@ ghost use Rattle.tk_plan.specs.Cutting.{script_of, units_of};
 ghost use Rattle.tk_plan.specs.Numbers.{IsNumbered};
 ghost use Rattle.tk_plan.specs.Planned.{IsPlanned};
 ghost use Rattle.tk_plan.specs.Trees.{forest};
-ghost use Rattle.tk_plan_laws.specs.Scripts.{may, played};
-ghost use Rattle.tk_engine_scripted.specs.steps.{kept, IsPlayed, IsRegistered, IsEmitted, begun, next_key};
+ghost use Rattle.tk_plan_laws.specs.Scripts.{may, played, next_key};
+ghost use Rattle.tk_engine_scripted.specs.steps.{kept, IsPlayed, IsRegistered, IsEmitted, begun};
 ghost use Rattle.tk_engine_scripted.specs.Plays.{IsPlayFault};
 
 use crate::keys::Keys;
