@@ -10,7 +10,7 @@ use Rattle.tk_record.specs.declared.statistics.Expected.{Expected}
 use Rattle.tk_record.specs.declared.selections.Selection.{Selection}
 use Rattle.tk_record.specs.Recorded.{Recorded}
 use Rattle.tk_record.specs.Selections.{PositionedEntry, Selected, all_of, events_of, positioned, selects}
-use Rattle.tk_record_text.specs.EventLists.{event_list}
+use Rattle.tk_record.specs.Lines.{event_list}
 use Rattle.tk_query_conditions.specs.declared.conditions.Condition.{Condition}
 use Rattle.tk_query_conditions.specs.Cond.{Cond}
 use Rattle.tk_query_conditions.specs.CondOf.{cond_of}

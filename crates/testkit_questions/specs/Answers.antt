@@ -9,7 +9,7 @@ use Rattle.tk_record.specs.Recorded.{Recorded}
 use Rattle.tk_record.specs.Selections.{Selected, all_of, events_of, filtered_by, selects}
 use Rattle.tk_record.specs.Statistics.{statistics_of, mismatches}
 use Rattle.tk_record.specs.StatisticTexts.{statistics_text}
-use Rattle.tk_record_text.specs.EventLists.{event_list}
+use Rattle.tk_record.specs.Lines.{event_list}
 use Rattle.tk_explanations.specs.Statistics.{mismatch_text}
 use Rattle.tk_query_conditions.specs.declared.conditions.Condition.{Condition}
 use Rattle.tk_query.specs.declared.answers.Exact.{Exact}

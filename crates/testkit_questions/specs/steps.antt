@@ -1,7 +1,7 @@
 -- What private clauses and proofs alone name.
 use Rattle.std.specs.Prelude.{ℕ, Bool, true, List, ◌≡◌, ◌≢◌, Err}
 use Rattle.std.specs.List.{flat_map}
-use Rattle.tk_record_text.specs.EventLists.{event_list}
+use Rattle.tk_record.specs.Lines.{event_list}
 use Rattle.testkit_questions.specs.declared.replies.Reply.{Reply}
 use Rattle.testkit_questions.specs.Answers.{execution_line}
 use Rattle.tk_query_conditions.specs.Answer.{IsReadAs}

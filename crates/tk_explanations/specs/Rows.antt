@@ -7,7 +7,7 @@ use Rattle.tk_events.specs.declared.events.Entry.{Entry}
 use Rattle.tk_events.specs.Fields.{field_text, line_feed}
 use Rattle.tk_record.specs.Entries.{desc}
 use Rattle.tk_record.specs.Recorded.{Recorded}
-use Rattle.tk_record_text.specs.Spelling.{entry_line}
+use Rattle.tk_record.specs.Lines.{entry_line}
 use Rattle.tk_query.specs.AnswerTexts.{blank}
 use Rattle.tk_query.specs.declared.execution.Execution.{Execution}
 pub use Rattle.tk_explanations.specs.DescriptorTexts.{quotation_mark, id_field, descriptor_text}

@@ -8,7 +8,7 @@ use Rattle.tk_ids.specs.declared.descriptors.Descriptor.{Descriptor}
 use Rattle.tk_events.specs.declared.outcomes.Outcome.{Outcome}
 use Rattle.tk_events.specs.declared.outcomes.Outcome.TheVariants.{Successful, Failed}
 use Rattle.tk_record.specs.Statistics.{statistics_of}
-use Rattle.tk_record_text.specs.Spelling.{joined}
+use Rattle.tk_record.specs.Lines.{joined}
 use Rattle.tk_record.specs.StatisticTexts.{statistics_text}
 use Rattle.tk_plan.specs.declared.trees.nodes.Node.{Node}
 use Rattle.tk_plan.specs.declared.trees.nodes.NumberedNode.{NumberedNode}

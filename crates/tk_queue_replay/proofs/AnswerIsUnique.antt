@@ -6,10 +6,11 @@ use Rattle.tk_ids.specs.declared.descriptors.Descriptor.{Descriptor}
 use Rattle.tk_events.specs.declared.events.Event.{Event}
 use Rattle.tk_events.specs.declared.events.Entry.{Entry}
 use Rattle.tk_record.specs.Recorded.{Recorded}
-use Rattle.tk_record_text.specs.Spelling.{node_line, entry_line}
+use Rattle.tk_record.specs.Lines.{entry_line, with_line_feed}
+use Rattle.tk_record_text.specs.Spelling.{node_line}
 use Rattle.tk_record_text.specs.declared.versions.Version.{Version}
 use Rattle.tk_record_text.specs.steps.Reading.{in_line}
-use Rattle.tk_record_text.specs.Text.{with_line_feed, nodes_text, entries_text}
+use Rattle.tk_record_text.specs.Text.{nodes_text, entries_text}
 use Rattle.tk_record_text.specs.NodeLines.{LacksNode}
 use Rattle.tk_record_text.proofs.Forms.{one_value}
 use Rattle.tk_record_text.proofs.AnswerIsUnique.{same_entry, cons_same, one_nodes}

@@ -11,11 +11,12 @@ use Rattle.tk_events.specs.declared.events.Event.{Event}
 use Rattle.tk_events.specs.declared.events.Entry.{Entry}
 use Rattle.tk_record.specs.Mixing.{IsWorkerOf, of_worker}
 use Rattle.tk_record.specs.Recorded.{Recorded}
-use Rattle.tk_record_text.specs.Spelling.{joined, entry_line, HasEntryLine}
+use Rattle.tk_record.specs.Lines.{joined, entry_line, with_line_feed}
+use Rattle.tk_record_text.specs.Spelling.{HasEntryLine}
 use Rattle.tk_record_text.specs.declared.versions.Version.{Version}
 use Rattle.tk_record_text.specs.Versions.{HasLineIn}
 use Rattle.tk_record_text.specs.steps.Reading.{in_line, entry_of}
-use Rattle.tk_record_text.specs.Text.{with_line_feed, nodes_text, entries_text}
+use Rattle.tk_record_text.specs.Text.{nodes_text, entries_text}
 use Rattle.tk_record_text.specs.NodeLines.{LacksFeed, LacksNodeStart, IsNodesPrefix, IsNodesFault}
 use Rattle.tk_record_text.specs.declared.reading.node_lines.NodesFault.{NodesFault}
 use Rattle.tk_record_text.specs.declared.reading.node_lines.NodesFault.TheVariants as listing

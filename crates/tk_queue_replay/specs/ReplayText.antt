@@ -13,8 +13,9 @@ use Rattle.tk_record_text.specs.declared.reading.TheConstants.{MAX_TEXT}
 use Rattle.tk_record_text.specs.declared.versions.Version.{Version}
 use Rattle.tk_record_text.specs.Versions.{HasLineIn, has_locks, header_of}
 use Rattle.tk_record_text.specs.NodeLines.{DeclareNoLock}
-use Rattle.tk_record_text.specs.Spelling.{node_line, entry_line, IsDescriptor}
-use Rattle.tk_record_text.specs.Text.{with_line_feed, nodes_text, entries_text, AreNodes, text}
+use Rattle.tk_record.specs.Lines.{entry_line, with_line_feed}
+use Rattle.tk_record_text.specs.Spelling.{node_line, IsDescriptor}
+use Rattle.tk_record_text.specs.Text.{nodes_text, entries_text, AreNodes, text}
 use Rattle.tk_record_text.specs.declared.reading.node_lines.NodesFault.{NodesFault}
 use Rattle.tk_record_text.specs.declared.reading.node_lines.NodesFault.TheVariants as listing
 use Rattle.tk_record_text.specs.declared.writing.WriteFault.{WriteFault}

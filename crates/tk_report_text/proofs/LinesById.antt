@@ -19,7 +19,7 @@ use Rattle.tk_record.specs.declared.records.EntryView.{EntryView}
 use Rattle.tk_record.specs.Recorded.{Recorded}
 use Rattle.tk_record.specs.Entries.{desc, desc_in}
 use Rattle.tk_record.specs.Record.{entry_of_view}
-use Rattle.tk_record_text.specs.Spelling.{joined, tail}
+use Rattle.tk_record.specs.Lines.{joined, tail}
 use Rattle.tk_report_text.specs.declared.grouping.LinesById.{LinesById}
 use Rattle.tk_report_text.specs.Labels.{Label, events, id_in, label, labels, name}
 use Rattle.tk_report_text.specs.Reports.{label_line, labels_of_id}

@@ -9,7 +9,8 @@ use Rattle.tk_events.specs.declared.payloads.Payload.{Payload}
 use Rattle.tk_events.specs.declared.events.Entry.{Entry}
 use Rattle.tk_record.specs.Recorded.{Recorded, without_entries}
 use Rattle.tk_record.specs.Entries.{with_entry}
-use Rattle.tk_record_text.specs.Spelling.{HasTail, joined, tail}
+use Rattle.tk_record.specs.Lines.{joined, tail}
+use Rattle.tk_record_text.specs.Spelling.{HasTail}
 use Rattle.tk_record_text.specs.declared.versions.Version.{Version}
 use Rattle.tk_record_text.specs.Text.{AreEntries, version_of}
 use Rattle.tk_record_text.proofs.TailLines.{one_tail}

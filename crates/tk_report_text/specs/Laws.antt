@@ -2,7 +2,8 @@
 use Rattle.std.specs.Prelude.{◌≡◌, ℕ, List, All, map}
 use Rattle.tk_events.specs.declared.events.Entry.{Entry}
 use Rattle.tk_record.specs.Recorded.{Recorded}
-use Rattle.tk_record_text.specs.Spelling.{HasTail, tail, joined}
+use Rattle.tk_record.specs.Lines.{tail, joined}
+use Rattle.tk_record_text.specs.Spelling.{HasTail}
 use Rattle.tk_record_text.specs.Text.{HasText}
 use Rattle.tk_report_text.specs.Labels.{Label, labels}
 use Rattle.tk_report_text.specs.Reports.{labels_of_id, report_of_record}

@@ -8,9 +8,8 @@ use Rattle.tk_ids.specs.IdText.{id_text}
 use Rattle.tk_record.specs.declared.statistics.Statistics.{Statistics}
 use Rattle.tk_record.specs.Recorded.{Recorded}
 use Rattle.tk_record.specs.Statistics.{statistics_of}
-use Rattle.tk_record_text.specs.Characters.{blank}
+use Rattle.tk_record.specs.Lines.{blank, tail, joined}
 use Rattle.tk_events.specs.Fields.{field_text, line_feed}
-use Rattle.tk_record_text.specs.Spelling.{tail, joined}
 use Rattle.tk_record.specs.StatisticTexts.{statistics_text}
 use Rattle.tk_report_text.specs.Labels.{Label, labels}
 

@@ -10,9 +10,8 @@ use Rattle.std.specs.Map.{lookup}
 use Rattle.tk_ids.specs.IdText.{IsId, id_text}
 use Rattle.tk_record.specs.Recorded.{Recorded}
 use Rattle.tk_record.specs.declared.records.EntryView.{EntryView}
-use Rattle.tk_record_text.specs.Characters.{blank}
+use Rattle.tk_record.specs.Lines.{blank, joined, tail}
 use Rattle.tk_events.specs.Fields.{line_feed}
-use Rattle.tk_record_text.specs.Spelling.{joined, tail}
 use Rattle.tk_report_text.specs.declared.grouping.LinesById.{LinesById}
 use Rattle.tk_report_text.specs.Labels.{Label, name}
 use Rattle.tk_report_text.specs.Reports.{label_line, labels_of_id}

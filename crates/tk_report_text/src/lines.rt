@@ -1,6 +1,6 @@
 //! The lines that a report has below an id.
 ghost use Rattle.std.specs.Prelude.{◌≡◌, ◌++◌, [], OnOk};
-ghost use Rattle.tk_record_text.specs.Spelling.{joined, tail};
+ghost use Rattle.tk_record.specs.Lines.{joined, tail};
 ghost use Rattle.tk_report_text.specs.steps.{is_empty, tail_line};
 
 use std::alloc::{AllocError, Global};

@@ -2,7 +2,8 @@
 use Rattle.std.specs.Prelude.{◌≡◌, ◌≢◌, ◌+◌, ◌⊎◌, ℕ, List, [], ◌++◌, length, codes}
 use Rattle.tk_ids.specs.declared.descriptors.Descriptor.{Descriptor}
 use Rattle.tk_events.specs.declared.events.Entry.{Entry}
-use Rattle.tk_record_text.specs.Text.{with_line_feed, nodes_text, entries_text}
+use Rattle.tk_record.specs.Lines.{with_line_feed}
+use Rattle.tk_record_text.specs.Text.{nodes_text, entries_text}
 use Rattle.tk_record_text.specs.NodeLines.{LacksNodeStart}
 use Rattle.tk_queue_replay.specs.declared.turns.Turn.{Turn}
 use Rattle.tk_queue_replay.specs.declared.replays.ReplayFault.{ReplayFault}

@@ -1,7 +1,7 @@
 use Rattle.std.specs.Prelude.{codes}
 use Rattle.tk_record.specs.Entries.{desc}
 use Rattle.tk_record.specs.Record.{entry_of_view}
-use Rattle.tk_record_text.specs.Spelling.{entry_line}
+use Rattle.tk_record.specs.Lines.{entry_line}
 use Rattle.tk_explanations.specs.Rows.{descriptor_text}
 use Rattle.tk_explanations.proofs.PieceRows.{adds_three}
 use Rattle.tk_explanations.proofs.pieces.put_event_text.Goals as goal
