@@ -18,6 +18,7 @@ use Rattle.tk_events.specs.declared.events.Entry.{Entry}
 use Rattle.tk_events.specs.declared.kinds.Kind.{Kind}
 use Rattle.tk_events.specs.declared.kinds.Kind.TheVariants.{Dynamic, File, Finished, Reporting}
 use Rattle.tk_events.specs.declared.kinds.Kind.TheVariants.{Skipped, Started}
+use Rattle.tk_events.specs.declared.outcomes.Outcome.{Outcome}
 use Rattle.tk_record.specs.Recorded.{Recorded}
 use Rattle.tk_record.specs.Mixing.{IsWorkerOf, of_worker}
 use Rattle.tk_queue_session.specs.Emission.{entries_by, entry_by, registrations}
@@ -33,7 +34,6 @@ use Rattle.tk_engine_hierarchical.specs.Laws.{FollowsPlan, HasOutcomes, HasTurn,
 use Rattle.tk_engine_unit_events.specs.Shapes.{HavePlaces, IsInUnit, ShapeView, frame, may_emit}
 use Rattle.tk_engine_hierarchical.specs.StaticSteps.{FitsPlan}
 use Rattle.tk_engine_unit_events.specs.Units.{StepsAs}
-use Rattle.tk_engine_unit_events.specs.declared.outcomes.Outcome.{Outcome}
 use Rattle.tk_engine_unit_events.proofs.Played.{any-append, any_kept, covered_by}
 use Rattle.tk_base.proofs.Lists.{get_below}
 use Rattle.std.proofs.lemmas.Bool.{and_parts, or_cases, or_left, or_right}

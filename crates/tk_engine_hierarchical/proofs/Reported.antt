@@ -4,11 +4,10 @@ use Rattle.std.specs.Prelude.{Err, IfErr, IfOk, Ok, OnOk, Option, Result}
 use Rattle.tk_ids.specs.IdText.{SegmentView}
 use Rattle.tk_ids.specs.declared.descriptors.DType.TheVariants.{Test}
 use Rattle.tk_events.specs.declared.kinds.Kind.TheVariants.{Finished, Skipped, Started}
-use Rattle.tk_events.specs.declared.payloads.Payload.{Payload}
-use Rattle.tk_events.specs.declared.payloads.Payload.TheVariants.{Nothing, Reason}
+use Rattle.tk_events.specs.declared.outcomes.Outcome.{Outcome}
+use Rattle.tk_events.specs.declared.payloads.Payload.TheVariants as payloads
 use Rattle.tk_engine_execute.specs.Engines.{Extends}
 use Rattle.tk_engine_execute.specs.declared.engines.UnitFault.{UnitFault}
-use Rattle.tk_engine_unit_events.specs.Endings.{payload_of}
 use Rattle.tk_engine_unit_events.specs.Refusals.{IsChildCause, IsInnermostCause, child_start}
 use Rattle.tk_engine_unit_events.specs.Standing.{BegunUnit}
 use Rattle.tk_engine_unit_events.specs.UnitSteps.{BodyFails, BodyRuns, ChildView, HasFinished}
@@ -19,14 +18,14 @@ use Rattle.tk_engine_hierarchical.specs.Reporting.{AtStamp, EndsChild, FailsOrDr
 use Rattle.tk_engine_hierarchical.specs.Reporting.{HasFailedDynamic, HasRunDynamic}
 use Rattle.tk_engine_hierarchical.specs.Reporting.{HasSkippedDynamic, HasStoppedDynamic}
 use Rattle.tk_engine_hierarchical.specs.Reporting.{IsStampOf, IsUnfinished, dynamic_skip}
-use Rattle.tk_engine_unit_events.specs.declared.outcomes.Outcome.{Outcome}
 use Rattle.tk_engine_unit_events.proofs.UnitSteps.{if_err, on_ok}
 
 pub has_run_child : (may_run : BodyRuns) (old started before new : UnitView) (c : ChildView)
     (above key stamp : ℕ) (outcome : Outcome) → IsStampOf old stamp
-    → HasStarted old started (child_request c above stamp) (event Started key stamp Nothing)
+    → HasStarted old started (child_request c above stamp)
+    (event Started key stamp payloads.Nothing)
     → Extends started.sink before.sink → may_run started before outcome
-    → AtStamp before (λ n. HasFinished before new (event Finished key n (payload_of outcome)))
+    → AtStamp before (λ n. HasFinished before new (event Finished key n (payloads.Outcome outcome)))
     → HasRunDynamic may_run old new c
 has_run_child may_run old started before new c above key stamp outcome at s x r f = (
   stamp,
@@ -49,7 +48,8 @@ has_run_child may_run old started before new c above key stamp outcome at s x r 
 -- a child began, and its fault is kept
 pub failed_begun : (old started new : UnitView) (c : ChildView) (kept now : Option UnitFault)
     (why : UnitFault) (above key stamp : ℕ) → IsStampOf old stamp
-    → HasStarted old started (child_request c above stamp) (event Started key stamp Nothing)
+    → HasStarted old started (child_request c above stamp)
+    (event Started key stamp payloads.Nothing)
     → Extends started.sink new.sink → now ≡ first_cause kept why
     → HasFailedDynamic old new c kept now why
 failed_begun old started new c kept now why above key stamp at s x cause =
@@ -78,19 +78,20 @@ fails_or_drops may_run may_fail old new after (Err why) how same ran failed faul
 -- a child's body ran, and the child's finish was refused
 pub unfinished : (may_run : BodyRuns) (started ran mid new : UnitView) (key : ℕ)
     (outcome : Outcome) (why : UnitFault) → mid ≡ ran → new ≡ mid → may_run started ran outcome
-    → AtStamp mid (λ n. IsInnermostCause mid (event Finished key n (payload_of outcome)) why)
+    → AtStamp mid (λ n. IsInnermostCause mid (event Finished key n (payloads.Outcome outcome)) why)
     → IsUnfinished may_run started new key why
 unfinished may_run started ran mid new key outcome why first last runs refused = record {
   outcome = outcome;
   ran = subst (λ v. may_run started v outcome) (sym (last ∙ first)) runs;
   refused = subst (λ v. AtStamp v (λ n. IsInnermostCause v
-      (event Finished key n (payload_of outcome)) why)) (sym last) refused;
+      (event Finished key n (payloads.Outcome outcome)) why)) (sym last) refused;
 }
 
 -- a child began, and this is why it stopped
 pub stopped : (may_run : BodyRuns) (may_fail : BodyFails) (old started new : UnitView)
     (c : ChildView) (why : UnitFault) (above key stamp : ℕ) → IsStampOf old stamp
-    → HasStarted old started (child_request c above stamp) (event Started key stamp Nothing)
+    → HasStarted old started (child_request c above stamp)
+    (event Started key stamp payloads.Nothing)
     → Extends started.sink new.sink
     → FailsOrDrops may_run may_fail started new why ⊎ IsUnfinished may_run started new key why
     → HasStoppedDynamic may_run may_fail old new c why
@@ -102,38 +103,25 @@ stopped may_run may_fail old started new c why above key stamp at s x stop = (
 
 -- what was noted of a finish changes nothing
 pub finish_noted : {F : Type 0} (r noted : Result (Unit {0}) F) (old before new after : UnitView)
-    (key : ℕ) (payload : Payload)
+    (key : ℕ) (outcome : Outcome)
     → noted ≡ r → before ≡ old → after ≡ new
-    → OnOk r (AtStamp before (λ n. HasFinished before new (event Finished key n payload)))
-    → OnOk noted (AtStamp old (λ n. HasFinished old after (event Finished key n payload)))
-finish_noted r noted old before new after key payload same first last finished =
-    subst (λ x. OnOk x (AtStamp old (λ n. HasFinished old after (event Finished key n payload))))
+    → OnOk r (AtStamp before (λ n. HasFinished before new
+    (event Finished key n (payloads.Outcome outcome))))
+    → OnOk noted (AtStamp old (λ n. HasFinished old after
+    (event Finished key n (payloads.Outcome outcome))))
+finish_noted r noted old before new after key outcome same first last finished =
+    subst (λ x. OnOk x (AtStamp old (λ n. HasFinished old after
+    (event Finished key n (payloads.Outcome outcome)))))
     (sym same)
     (on_ok r finished
     (λ f. subst (λ (w : UnitView). AtStamp old (λ n. HasFinished old w
-    (event Finished key n payload))) (sym last)
-    (subst (λ (v : UnitView). AtStamp v (λ n. HasFinished v new (event Finished key n payload)))
-    first f)))
-
--- a finish at the stamp of the unit, with a payload that is another's
-pub finished_at : (old new : UnitView) (key stamp : ℕ) (payload outcome : Payload)
-    → IsStampOf old stamp → payload ≡ outcome
-    → HasFinished old new (event Finished key stamp payload)
-    → AtStamp old (λ n. HasFinished old new (event Finished key n outcome))
-finished_at old new key stamp payload outcome at same f =
-    (stamp, at, subst (λ p. HasFinished old new (event Finished key stamp p)) same f)
-
--- such a finish was refused
-pub refused_at : (u : UnitView) (key stamp : ℕ) (payload outcome : Payload) (why : UnitFault)
-    → IsStampOf u stamp → payload ≡ outcome
-    → IsInnermostCause u (event Finished key stamp payload) why
-    → AtStamp u (λ n. IsInnermostCause u (event Finished key n outcome) why)
-refused_at u key stamp payload outcome why at same f =
-    (stamp, at, subst (λ p. IsInnermostCause u (event Finished key stamp p) why) same f)
+    (event Finished key n (payloads.Outcome outcome)))) (sym last)
+    (subst (λ (v : UnitView). AtStamp v (λ n. HasFinished v new
+    (event Finished key n (payloads.Outcome outcome)))) first f)))
 
 pub ends_child : (statics : ℕ) (may_end : Outcome → Type 0) (old new : UnitView) (key : ℕ)
     (outcome : Outcome) → statics ≤ key → may_end outcome
-    → AtStamp old (λ n. HasFinished old new (event Finished key n (payload_of outcome)))
+    → AtStamp old (λ n. HasFinished old new (event Finished key n (payloads.Outcome outcome)))
     → EndsChild statics may_end new
 ends_child statics may_end old new key outcome dynamic its f = record {
   key = key;
@@ -148,30 +136,30 @@ ends_child statics may_end old new key outcome dynamic its f = record {
 pub named_skip : (old new : UnitView) (s t : SegmentView) (name : List ℕ) (stamp : ℕ)
     (copied reason : List ℕ) → IsStampOf old stamp → s ≡ t → copied ≡ reason
     → (above : ℕ) × (key : ℕ) × HasSkipped old new (child_request (child Test s name) above stamp)
-    (event Skipped key stamp (Reason copied))
+    (event Skipped key stamp (payloads.Reason copied))
     → HasSkippedDynamic old new (child Test t name) reason
 named_skip old new s t name stamp copied reason at a b skip = (
   stamp,
   at,
   subst (λ r. (above : ℕ) × (key : ℕ)
       × HasSkipped old new (child_request (child Test t name) above stamp)
-      (event Skipped key stamp (Reason r))) b
+      (event Skipped key stamp (payloads.Reason r))) b
       (subst (λ x. (above : ℕ) × (key : ℕ)
       × HasSkipped old new (child_request (child Test x name) above stamp)
-      (event Skipped key stamp (Reason copied))) a skip),
+      (event Skipped key stamp (payloads.Reason copied))) a skip),
 )
 
 pub named_skip_cause : (unit : BegunUnit) (u : UnitView) (s t : SegmentView) (name : List ℕ)
     (stamp : ℕ) (copied reason : List ℕ) (why : UnitFault)
     → IsStampOf u stamp → s ≡ t → copied ≡ reason
     → IsChildCause unit u (child_start (child Test s name) stamp
-    (λ key. event Skipped key stamp (Reason copied))) why
+    (λ key. event Skipped key stamp (payloads.Reason copied))) why
     → AtStamp u (λ n. IsChildCause unit u (dynamic_skip (child Test t name) reason n) why)
 named_skip_cause unit u s t name stamp copied reason why at a b cause = (
   stamp,
   at,
   subst (λ r. IsChildCause unit u (child_start (child Test t name) stamp
-      (λ key. event Skipped key stamp (Reason r))) why) b
+      (λ key. event Skipped key stamp (payloads.Reason r))) why) b
       (subst (λ x. IsChildCause unit u (child_start (child Test x name) stamp
-      (λ key. event Skipped key stamp (Reason copied))) why) a cause),
+      (λ key. event Skipped key stamp (payloads.Reason copied))) why) a cause),
 )

@@ -7,6 +7,7 @@ use Rattle.std.proofs.lemmas.List.Elements.{All-drop, All-take, All-weaker}
 use Rattle.tk_base.proofs.Lists.{All_at, All_one as all_single}
 use Rattle.tk_ids.specs.declared.descriptors.Descriptor.{Descriptor}
 use Rattle.tk_events.specs.declared.events.Event.{Event}
+use Rattle.tk_events.specs.declared.outcomes.Outcome.{Outcome}
 use Rattle.tk_plan.specs.declared.trees.nodes.Node.{Node}
 use Rattle.tk_plan.specs.declared.trees.nodes.NumberedNode.{NumberedNode}
 use Rattle.tk_plan.specs.Cutting.{Part, Piece, from_each, moves_of, on_spine, parts}
@@ -20,7 +21,6 @@ use Rattle.tk_plan.proofs.NodeOrder.{all_numbered}
 use Rattle.tk_plan.proofs.ListParts.{all_back, all_prefix}
 use Rattle.tk_engine_hierarchical.specs.StaticSteps.{FitsNode, FitsPlan}
 use Rattle.tk_engine_hierarchical.specs.steps.{MayStepAs}
-use Rattle.tk_engine_unit_events.specs.declared.outcomes.Outcome.{Outcome}
 
 -- what holds of the nodes of some trees holds of those of their units
 module _ (P : NumberedNode → Type 0) where

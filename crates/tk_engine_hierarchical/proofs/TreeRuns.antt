@@ -8,6 +8,7 @@ use Rattle.std.proofs.lemmas.List.{take_all}
 use Rattle.tk_ids.specs.declared.descriptors.Descriptor.{Descriptor}
 use Rattle.tk_events.specs.declared.events.Event.{Event}
 use Rattle.tk_events.specs.declared.kinds.Kind.TheVariants.{Finished, Skipped}
+use Rattle.tk_events.specs.declared.outcomes.Outcome.{Outcome}
 use Rattle.tk_events.specs.declared.payloads.Payload.TheVariants as payloads
 use Rattle.tk_plan.specs.declared.trees.nodes.Node.{Node}
 use Rattle.tk_plan.specs.declared.trees.nodes.NumberedNode.{NumberedNode}
@@ -32,7 +33,6 @@ use Rattle.tk_engine_hierarchical.specs.TreeRuns.{RunsBody, RunsForest, RunsNode
 use Rattle.tk_engine_hierarchical.specs.TreeRuns.{RunsUnitTree, StartsNode, TestRules, TestRuns}
 use Rattle.tk_engine_hierarchical.specs.TreeRuns.{plan_state}
 use Rattle.tk_engine_hierarchical.specs.declared.planned_units.TestEnd.{TestEnd}
-use Rattle.tk_engine_unit_events.specs.declared.outcomes.Outcome.{Outcome}
 use Rattle.tk_engine_hierarchical.proofs.Nested.{of_worker_mid}
 use Rattle.tk_engine_hierarchical.proofs.Recorded.{run_more, unit_ran}
 use Rattle.tk_engine_unit_events.proofs.UnitSteps.{on_ok}
@@ -52,11 +52,11 @@ pub may_finish : (table : List Descriptor) (may_end : ℕ → Outcome → Type 0
     → MayStepAs table may_end may_step p → p.node.skip ≡ None
     → (key < length table → key ≡ p.number) → IfNone end (¬ IsStaticTest table key)
     → IfNone end (key < length table → (stamp : ℕ)
-    → may_step (event Finished key stamp (payloads.Outcome p.node.status p.node.message)))
+    → may_step (event Finished key stamp (payloads.Outcome p.node.outcome)))
 may_finish table may_end may_step p key end may runs own other =
     if_none end other
     (λ none low stamp. may
-    (event Finished key stamp (payloads.Outcome p.node.status p.node.message)) (own low)
+    (event Finished key stamp (payloads.Outcome p.node.outcome)) (own low)
     (record {
       starts = λ kind. runs;
       skipped = λ kind. absurd (not_skipped kind);

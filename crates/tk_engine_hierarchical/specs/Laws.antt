@@ -6,6 +6,7 @@ use Rattle.tk_plan.specs.Trees.{forest}
 use Rattle.tk_engine_runs.specs.Run.{IsRun}
 use Rattle.tk_events.specs.declared.events.Event.{Event}
 use Rattle.tk_events.specs.declared.kinds.Kind.TheVariants.{Finished, Skipped, Started}
+use Rattle.tk_events.specs.declared.outcomes.Outcome.{Outcome}
 use Rattle.tk_record.specs.Mixing.{of_worker}
 use Rattle.tk_record.specs.Recorded.{Recorded}
 use Rattle.tk_query_lifecycle.specs.KeepsLifecycle.{steps_of}
@@ -17,7 +18,6 @@ use Rattle.tk_engine_unit_events.specs.Shapes.{ShapeView, frame, may_emit}
 use Rattle.tk_engine_hierarchical.specs.StaticSteps.{FitsPlan}
 use Rattle.tk_engine_unit_events.specs.Units.{StepsAs}
 use Rattle.tk_engine_hierarchical.specs.TreeRuns.{IsOfUnitTree, TestRules, UnitWorker}
-use Rattle.tk_engine_unit_events.specs.declared.outcomes.Outcome.{Outcome}
 
 -- Which events a unit of the engine of a plan may emit for a worker, by the engine's shape, which
 -- has the plan, and by what its tests promise.

@@ -7,20 +7,19 @@ use Rattle.tk_ids.specs.declared.id_faults.IdFault.TheVariants.{Empty}
 use Rattle.tk_events.specs.declared.events.Event.{Event}
 use Rattle.tk_events.specs.declared.kinds.Kind.TheVariants.{File, Finished, Reporting}
 use Rattle.tk_events.specs.declared.kinds.Kind.TheVariants.{Skipped, Started}
-use Rattle.tk_events.specs.declared.payloads.Payload.TheVariants.{Nothing, Path, Reason, Report}
+use Rattle.tk_events.specs.declared.outcomes.Outcome.{Outcome}
+use Rattle.tk_events.specs.declared.payloads.Payload.TheVariants as payloads
 use Rattle.tk_queue_session.specs.Registering.{RegisterRequest}
 use Rattle.tk_queue_session.specs.Senders.{SenderView, sends}
 use Rattle.tk_engine_execute.specs.Engines.{Extends, fault_of_id}
 use Rattle.tk_engine_execute.specs.declared.engines.UnitFault.{UnitFault}
 use Rattle.tk_engine_execute.specs.declared.engines.UnitFault.TheVariants.{Memory}
-use Rattle.tk_engine_unit_events.specs.Endings.{payload_of}
 use Rattle.tk_engine_unit_events.specs.UnitSteps.{BodyFails, BodyRuns, ChildView, Grew}
 use Rattle.tk_engine_unit_events.specs.UnitSteps.{HasFinished, HasSkipped, HasStarted, Published}
 use Rattle.tk_engine_unit_events.specs.UnitSteps.{UnitView, child, child_request, event}
 use Rattle.tk_engine_unit_events.specs.Refusals.{ChildStart, IsChildCause, IsInnermostCause}
 use Rattle.tk_engine_unit_events.specs.Refusals.{IsPublishCause, child_start}
 use Rattle.tk_engine_unit_events.specs.Standing.{BegunUnit}
-use Rattle.tk_engine_unit_events.specs.declared.outcomes.Outcome.{Outcome}
 use Rattle.tk_engine_hierarchical.specs.Causes.{first_cause}
 
 -- the stamp is the one that the unit has; where it has none, the clock read it
@@ -37,13 +36,13 @@ pub record HasRunChild (may_run : BodyRuns) (old new : UnitView) (ask : Register
     Type 0 where
   pub key : ℕ
   pub started : UnitView
-  pub start : HasStarted old started ask (event Started key ask.stamp Nothing)
+  pub start : HasStarted old started ask (event Started key ask.stamp payloads.Nothing)
   pub before : UnitView
   pub later : Extends started.sink before.sink
   pub outcome : Outcome
   pub ran : may_run started before outcome
   pub finish : AtStamp before (λ stamp.
-      HasFinished before new (event Finished key stamp (payload_of outcome)))
+      HasFinished before new (event Finished key stamp (payloads.Outcome outcome)))
 
 -- a child was registered below the innermost running key and started, ran its body, and finished
 abbrev pub HasRunDynamic : BodyRuns → UnitView → UnitView → ChildView → Type 0
@@ -55,7 +54,7 @@ HasRunDynamic may_run old new c =
 pub record HasBegunChild (old new : UnitView) (ask : RegisterRequest) : Type 0 where
   pub key : ℕ
   pub started : UnitView
-  pub start : HasStarted old started ask (event Started key ask.stamp Nothing)
+  pub start : HasStarted old started ask (event Started key ask.stamp payloads.Nothing)
   pub later : Extends started.sink new.sink
 
 -- a child was registered below the innermost running key and started, and then the sink took what
@@ -75,14 +74,14 @@ pub record IsUnfinished (may_run : BodyRuns) (started new : UnitView) (key : ℕ
   pub outcome : Outcome
   pub ran : may_run started new outcome
   pub refused : AtStamp new (λ stamp.
-      IsInnermostCause new (event Finished key stamp (payload_of outcome)) why)
+      IsInnermostCause new (event Finished key stamp (payloads.Outcome outcome)) why)
 
 -- a child began, and this is why it stopped: its body failed, or its finish was refused
 pub record HasStoppedChild (may_run : BodyRuns) (may_fail : BodyFails) (old new : UnitView)
     (ask : RegisterRequest) (why : UnitFault) : Type 0 where
   pub key : ℕ
   pub started : UnitView
-  pub start : HasStarted old started ask (event Started key ask.stamp Nothing)
+  pub start : HasStarted old started ask (event Started key ask.stamp payloads.Nothing)
   pub later : Extends started.sink new.sink
   pub stop : FailsOrDrops may_run may_fail started new why
       ⊎ IsUnfinished may_run started new key why
@@ -96,7 +95,7 @@ HasStoppedDynamic may_run may_fail old new c why =
 
 -- what is asked for, to start a child at this stamp
 abbrev pub dynamic_start : ChildView → ℕ → ChildStart
-dynamic_start c stamp = child_start c stamp (λ key. event Started key stamp Nothing)
+dynamic_start c stamp = child_start c stamp (λ key. event Started key stamp payloads.Nothing)
 
 -- A child wasn't started, and no other fault is kept; or it was started, its body or its finish was
 -- refused, and the cause of the first such fault is kept.
@@ -140,15 +139,15 @@ PublishedNow old new event = AtStamp old (λ stamp. (key : ℕ) × Published old
 
 -- the entry of these pairs that a key publishes at a stamp
 abbrev pub entry_at : List (List ℕ × List ℕ) → ℕ → ℕ → Event
-entry_at pairs stamp key = event Reporting key stamp (Report pairs)
+entry_at pairs stamp key = event Reporting key stamp (payloads.Report pairs)
 
 -- the file of this path that a key publishes at a stamp
 abbrev pub file_at : List ℕ → ℕ → ℕ → Event
-file_at path stamp key = event File key stamp (Path path)
+file_at path stamp key = event File key stamp (payloads.Path path)
 
 -- the skip of a key for this reason at a stamp
 abbrev pub skip_at : List ℕ → ℕ → ℕ → Event
-skip_at reason stamp key = event Skipped key stamp (Reason reason)
+skip_at reason stamp key = event Skipped key stamp (payloads.Reason reason)
 
 -- what is asked for, to skip a child at this stamp
 abbrev pub dynamic_skip : ChildView → List ℕ → ℕ → ChildStart
@@ -168,4 +167,4 @@ pub record EndsChild (statics : ℕ) (may_end : Outcome → Type 0) (new : UnitV
   pub outcome : Outcome
   pub its : may_end outcome
   pub took : AtStamp new (λ stamp.
-      new.sink ≡ sends before (event Finished key stamp (payload_of outcome)))
+      new.sink ≡ sends before (event Finished key stamp (payloads.Outcome outcome)))

@@ -3,13 +3,13 @@ use Rattle.std.specs.Prelude.{◌≡◌, ℕ, List, Some, None, slice_get}
 use Rattle.tk_ids.specs.declared.descriptors.Descriptor.{Descriptor}
 use Rattle.tk_events.specs.declared.events.Event.{Event}
 use Rattle.tk_events.specs.declared.kinds.Kind.TheVariants.{Finished, Skipped, Started}
+use Rattle.tk_events.specs.declared.outcomes.Outcome.{Outcome}
 use Rattle.tk_events.specs.declared.payloads.Payload.{Payload}
 use Rattle.tk_events.specs.declared.payloads.Payload.TheVariants as payloads
 use Rattle.tk_plan.specs.declared.trees.nodes.Node.{Node}
 use Rattle.tk_plan.specs.Numbers.{in_order}
 use Rattle.tk_plan.specs.Planned.{Outline}
 use Rattle.tk_engine_unit_events.specs.Endings.{HasOutcome, IsStaticTest}
-use Rattle.tk_engine_unit_events.specs.declared.outcomes.Outcome.{Outcome}
 
 -- the node is skipped, and the payload has the reason
 abbrev pub HasReason : Node → Payload → Type 0
@@ -25,7 +25,7 @@ pub record FitsNode (table : List Descriptor) (may_end : ℕ → Outcome → Typ
   pub skipped : e.kind ≡ Skipped → HasReason n e.payload
   pub ended : e.kind ≡ Finished → IsStaticTest table e.key → HasOutcome may_end e.key e.payload
   pub planned : e.kind ≡ Finished → ¬ IsStaticTest table e.key
-      → e.payload ≡ payloads.Outcome n.status n.message
+      → e.payload ≡ payloads.Outcome n.outcome
 
 -- the plan has a node whose number is the event's key, and that may have the event
 pub record FitsPlan (plan : Outline) (may_end : ℕ → Outcome → Type 0) (e : Event) : Type 0 where

@@ -6,6 +6,7 @@ use Rattle.tk_events.specs.declared.events.Event.{Event}
 use Rattle.tk_events.specs.declared.kinds.Kind.{Kind}
 use Rattle.tk_events.specs.declared.kinds.Kind.TheVariants.{File, Finished, Reporting}
 use Rattle.tk_events.specs.declared.kinds.Kind.TheVariants.{Skipped, Started}
+use Rattle.tk_events.specs.declared.outcomes.Outcome.{Outcome}
 use Rattle.tk_events.specs.declared.payloads.Payload.{Payload}
 use Rattle.tk_events.specs.declared.payloads.Payload.TheVariants as payloads
 use Rattle.tk_plan.specs.declared.trees.nodes.Node.{Node}
@@ -15,11 +16,10 @@ use Rattle.tk_plan.specs.Trees.{Forest, Tree, forest, more, no_trees, tree}
 use Rattle.tk_queue_session.specs.Emission.{registrations}
 use Rattle.tk_queue_session.specs.Senders.{SenderView}
 use Rattle.tk_engine_execute.specs.Engines.{Extends}
-use Rattle.tk_engine_unit_events.specs.Endings.{IsStaticTest, payload_of}
+use Rattle.tk_engine_unit_events.specs.Endings.{IsStaticTest}
 use Rattle.tk_engine_unit_events.specs.UnitSteps.{BodyRuns, ChildView, HasFinished, HasSkipped}
 use Rattle.tk_engine_unit_events.specs.UnitSteps.{HasStarted, UnitView, after_event, after_start}
 use Rattle.tk_engine_unit_events.specs.UnitSteps.{begun, child, child_request, event}
-use Rattle.tk_engine_unit_events.specs.declared.outcomes.Outcome.{Outcome}
 use Rattle.tk_engine_hierarchical.specs.declared.planned_units.TestEnd.{TestEnd}
 
 -- how the body of each static test may run, by the test's key
@@ -143,21 +143,20 @@ SkipsNode true n number reason old new =
     EmitsNext Skipped number (payloads.Reason reason) old new
 SkipsNode false n number reason old new = SkipsDynamic n reason old new
 
--- the key finished next, with this payload, at the stamp that its body set, where it set one
-pub record FinishesNext (key : ℕ) (own : Option ℕ) (payload : Payload) (old new : PlanState) :
+-- the key finished next, with this outcome, at the stamp that its body set, where it set one
+pub record FinishesNext (key : ℕ) (own : Option ℕ) (outcome : Outcome) (old new : PlanState) :
     Type 0 where
   pub stamp : ℕ
   pub stamped : IsNextStamp old stamp
-  pub finish : HasFinished old.unit new.unit (event Finished key (unwrap_or own stamp) payload)
+  pub finish : HasFinished old.unit new.unit
+      (event Finished key (unwrap_or own stamp) (payloads.Outcome outcome))
   pub next : new ≡ after_next old new.unit
 
 -- a test with a body finishes with its outcome, at the stamp that it set, or else at the next one;
 -- any other node finishes as the plan says
 abbrev pub FinishesNode : Node → ℕ → Option TestEnd → PlanState → PlanState → Type 0
-FinishesNode n key (Some end) old new =
-    FinishesNext key end.stamp (payload_of end.outcome) old new
-FinishesNode n key None old new =
-    FinishesNext key None (payloads.Outcome n.status n.message) old new
+FinishesNode n key (Some end) old new = FinishesNext key end.stamp end.outcome old new
+FinishesNode n key None old new = FinishesNext key None n.outcome old new
 
 module _ (table : List Descriptor) (may_run : TestRuns) where
   -- the static test with this key ran its body once, which ended so and published after what was

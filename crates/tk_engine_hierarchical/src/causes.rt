@@ -4,8 +4,7 @@ ghost use Rattle.tk_engine_execute.specs.declared.engines.UnitFault.{UnitFault};
 ghost use Rattle.tk_engine_hierarchical.specs.Causes.{cause_of, send_cause_of, without_payload};
 
 use tk_engine_execute::{SinkFault, UnitFault};
-use tk_engine_unit_events::Outcome;
-use tk_events::{Event, Payload};
+use tk_events::{Event, Outcome, Payload};
 use tk_queue_session::SendFault;
 
 /// The cause of a fault: the fault itself; where it has the refused event, without the payload.

@@ -2,9 +2,8 @@
 ghost use Rattle.std.specs.Prelude.{◌≡◌, ◌<◌, ℕ, IfErr, IfNone, IfOk, IfSome, None, OnOk, is_some, length};
 ghost use Rattle.tk_engine_execute.specs.Engines.{Extends};
 ghost use Rattle.tk_events.specs.declared.kinds.Kind.TheVariants.{Finished, Skipped, Started};
-ghost use Rattle.tk_events.specs.declared.payloads.Payload.TheVariants.{Nothing, Outcome as Ended};
-ghost use Rattle.tk_events.specs.declared.payloads.Payload.TheVariants.{Reason};
-ghost use Rattle.tk_engine_unit_events.specs.Endings.{IsStaticTest, payload_of};
+ghost use Rattle.tk_events.specs.declared.payloads.Payload.TheVariants.{Nothing, Outcome as Ended, Reason};
+ghost use Rattle.tk_engine_unit_events.specs.Endings.{IsStaticTest};
 ghost use Rattle.tk_engine_unit_events.specs.UnitSteps.{event};
 ghost use Rattle.tk_engine_hierarchical.specs.Reporting.{FailsOrDrops};
 ghost use Rattle.tk_engine_hierarchical.specs.TreeRuns.{FinishesNext, FinishesNode, IsNextStamp, Publishes, PublishesEntries, PublishesFiles, RunsBody, SkipsNode, StartsNode, after_position, body_stamp, child_of_node};
@@ -12,13 +11,13 @@ ghost use Rattle.tk_engine_hierarchical.specs.TreeRuns.{FinishesNext, FinishesNo
 use crate::clocks::EventClock;
 use crate::contexts::{Context, InUnit};
 use crate::reporters::Reporter;
-use crate::tests::{Tests, payload_of};
+use crate::tests::Tests;
 use std::alloc::Global;
 use std::marker::Model;
 use std::sync::Wait;
 use tk_engine_execute::{Sink, UnitFault};
-use tk_engine_unit_events::{Child, Outcome, UnitBody, UnitEvents, UnitRun};
-use tk_events::{Kind, Pairs, Payload, try_clone_message};
+use tk_engine_unit_events::{Child, UnitBody, UnitEvents, UnitRun};
+use tk_events::{Kind, Outcome, Pairs, Payload};
 use tk_ids::Text;
 use tk_plan::{Node, NumberedNode};
 
@@ -286,16 +285,17 @@ impl<'a, S: Sink, K: UnitRun, C: EventClock> PlannedUnit<'a, S, K, C> {
         self.publish_files(rt, key, node.files.as_slice())
     }
 
-    // Finishes a key, at the stamp that its body set, or else at that of the next event.
+    // Finishes a key with this outcome, at the stamp that its body set, or else at that of the next
+    // event.
     fn finish_key<R: Wait>(
         &mut self,
         rt: &R,
         key: u32,
         own_stamp: Option<u64>,
-        outcome: Payload,
+        outcome: Outcome,
     ) -> Result<(), UnitFault>
         requires { key < length K.unit.frame.table
-            → (stamp : ℕ) → K.unit.may_step (event Finished key stamp outcome) }
+            → (stamp : ℕ) → K.unit.may_step (event Finished key stamp (Ended outcome)) }
         ensures { OnOk result (FinishesNext key own_stamp outcome self.old self.new) }
     {
         let next = self.take_stamp();
@@ -312,17 +312,14 @@ impl<'a, S: Sink, K: UnitRun, C: EventClock> PlannedUnit<'a, S, K, C> {
         ended: Option<TestEnd>,
     ) -> Result<(), UnitFault>
         requires test { IfSome ended (λ end. key < length K.unit.frame.table → (stamp : ℕ)
-            → K.unit.may_step (event Finished key stamp (payload_of end.outcome))) }
+            → K.unit.may_step (event Finished key stamp (Ended end.outcome))) }
         requires other { IfNone ended (key < length K.unit.frame.table → (stamp : ℕ)
-            → K.unit.may_step (event Finished key stamp (Ended node.now.status node.now.message))) }
+            → K.unit.may_step (event Finished key stamp (Ended node.now.outcome))) }
         ensures { OnOk result (FinishesNode node.now key ended self.old self.new) }
     {
         match ended {
-            Some(test) => self.finish_key(rt, key, test.stamp, payload_of(test.outcome)),
-            None => {
-                let message = try_clone_message(&node.message)?;
-                self.finish_key(rt, key, None, Payload::Outcome(node.status, message))
-            }
+            Some(test) => self.finish_key(rt, key, test.stamp, test.outcome),
+            None => self.finish_key(rt, key, None, node.outcome.try_clone()?),
         }
     }
 }

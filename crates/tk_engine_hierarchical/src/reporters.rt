@@ -2,11 +2,11 @@
 ghost use Rattle.std.specs.Prelude.{◌≡◌, ◌⊎◌, ◌≤◌, ◌∷◌, [], Err, IfErr, IfOk, None, Ok, OnErr, OnOk, Some, length};
 ghost use Rattle.tk_ids.specs.declared.descriptors.Descriptor.{Descriptor as DescriptorView};
 ghost use Rattle.tk_ids.specs.declared.descriptors.DType.TheVariants.{Container, Test};
-ghost use Rattle.tk_events.specs.declared.kinds.Kind.TheVariants as kinds;
+ghost use Rattle.tk_events.specs.declared.kinds.Kind.TheVariants.{Finished};
+ghost use Rattle.tk_events.specs.declared.payloads.Payload.TheVariants.{Outcome as Ended};
 ghost use Rattle.tk_engine_execute.specs.Engines.{Extends, IsSameSender};
 ghost use Rattle.tk_engine_execute.specs.declared.engines.UnitFault.{UnitFault};
 ghost use Rattle.tk_engine_execute.specs.declared.engines.UnitFault.TheVariants.{Own};
-ghost use Rattle.tk_engine_unit_events.specs.Endings.{payload_of};
 ghost use Rattle.tk_engine_hierarchical.specs.Causes.{first_cause};
 ghost use Rattle.tk_engine_hierarchical.specs.Reporting.{AtStamp, EndsChild, FailsOrDrops, HasFailedDynamic, HasRunDynamic, HasSkippedDynamic, HasStoppedDynamic, IsDynamicCause, IsEventCause, IsSegmentCause, IsStampOf, IsTextCause, PublishedNow, dynamic_skip, dynamic_start, entry_at, file_at, named_child, segment_view};
 ghost use Rattle.tk_engine_unit_events.specs.Refusals.{IsChildCause, IsInnermostCause};
@@ -16,12 +16,12 @@ ghost use Rattle.tk_engine_unit_events.specs.UnitSteps.{Grew, HasFinished, IsInn
 use crate::causes::{cause_of, ending};
 use crate::clocks::EventClock;
 use crate::contexts::{Context, InUnit};
-use crate::tests::{Body, payload_of};
+use crate::tests::Body;
 use std::alloc::Global;
 use std::sync::Wait;
 use tk_engine_execute::{OUT_OF_ORDER, Sink, UnitFault};
-use tk_engine_unit_events::{Child, Outcome, UnitBody, UnitEvents, UnitRun};
-use tk_events::{Kind, Pairs, Payload};
+use tk_engine_unit_events::{Child, UnitBody, UnitEvents, UnitRun};
+use tk_events::{Kind, Outcome, Pairs, Payload};
 use tk_ids::{DType, Descriptor, Segment, Text};
 
 /// The test or container that runs: what it publishes, and what it runs below it.
@@ -171,20 +171,20 @@ impl<'r, 'a, C: Context> Reporter<'r, 'a, C> {
         }
     }
 
-    /// Finishes a dynamic key, which has to be the innermost running one.
+    /// Finishes a dynamic key with this outcome; the key has to be the innermost running one.
     pub(crate) fn finish(&mut self, key: u32, outcome: Outcome) -> Result<(), UnitFault>
         requires { length C.Run.unit.frame.table ≤ key }
         ensures ok { OnOk result (AtStamp self.old.events (λ stamp.
             HasFinished self.old.events self.new.events
-            (event kinds.Finished key stamp (payload_of outcome)))) }
+            (event Finished key stamp (Ended outcome)))) }
         ensures err { OnErr result (self.new.events ≡ self.old.events) }
         ensures cause { IfErr result (λ why. AtStamp self.old.events (λ stamp.
             IsInnermostCause self.old.events
-            (event kinds.Finished key stamp (payload_of outcome)) why)) }
+            (event Finished key stamp (Ended outcome)) why)) }
         ensures kept { self.new.child_fault ≡ self.old.child_fault }
     {
         let stamp = self.stamp();
-        self.events.finish(self.rt, key, stamp, payload_of(outcome))
+        self.events.finish(self.rt, key, stamp, outcome)
     }
 
     // Registers and starts a child, runs its body, and finishes it.

@@ -1,12 +1,10 @@
 //! What an author writes: tests, and the bodies of dynamic ones.
 ghost use Rattle.std.specs.Prelude.{◌≡◌, IfErr, IfOk};
-ghost use Rattle.tk_engine_unit_events.specs.Endings.{payload_of};
 
 use crate::contexts::Context;
 use crate::reporters::Reporter;
 use tk_engine_execute::UnitFault;
-use tk_engine_unit_events::Outcome;
-use tk_events::{Payload, Status};
+use tk_events::Outcome;
 
 /// The tests of an engine: what each static test of its plan does.
 ///
@@ -17,7 +15,7 @@ use tk_events::{Payload, Status};
 pub trait Tests {
     ghost use Rattle.std.specs.Prelude.{ℕ, IfErr, IfOk};
     ghost use Rattle.tk_engine_unit_events.specs.UnitSteps.{BodyFails, BodyRuns};
-    ghost use Rattle.tk_engine_unit_events.specs.declared.outcomes.Outcome.{Outcome};
+    ghost use Rattle.tk_events.specs.declared.outcomes.Outcome.{Outcome};
 
     ghost may_end: { Self → ℕ → Outcome → Type 0 } = { λ tests key outcome. Unit {0} };
 
@@ -51,7 +49,7 @@ pub trait Tests {
 pub trait Body {
     ghost use Rattle.std.specs.Prelude.{IfErr, IfOk};
     ghost use Rattle.tk_engine_unit_events.specs.UnitSteps.{BodyFails, BodyRuns};
-    ghost use Rattle.tk_engine_unit_events.specs.declared.outcomes.Outcome.{Outcome};
+    ghost use Rattle.tk_events.specs.declared.outcomes.Outcome.{Outcome};
 
     ghost may_end: { Self → Outcome → Type 0 } = { λ body outcome. Unit {0} };
 
@@ -82,16 +80,5 @@ impl Body for Outcome {
 
     fn run<C: Context>(&self, _test: &mut Reporter<C>) -> Result<Outcome, UnitFault> {
         Ok(self.try_clone()?)
-    }
-}
-
-/// The payload of a finish with this outcome.
-pub(crate) fn payload_of(outcome: Outcome) -> Payload
-    ensures { result ≡ payload_of outcome }
-{
-    match outcome {
-        Outcome::Successful => Payload::Outcome(Status::Successful, None),
-        Outcome::Aborted(message) => Payload::Outcome(Status::Aborted, message),
-        Outcome::Failed(message) => Payload::Outcome(Status::Failed, message),
     }
 }

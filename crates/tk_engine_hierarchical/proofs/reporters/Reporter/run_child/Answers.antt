@@ -3,7 +3,7 @@ use Rattle.std.proofs.lemmas.Result.{err_from_is_err_and}
 use Rattle.std.specs.Prelude.{IfErr, IfOk, OnErr}
 use Rattle.tk_engine_execute.specs.Engines.{Extends}
 use Rattle.tk_events.specs.declared.kinds.Kind.TheVariants.{Finished}
-use Rattle.tk_engine_unit_events.specs.Endings.{payload_of}
+use Rattle.tk_events.specs.declared.payloads.Payload.TheVariants.{Outcome}
 use Rattle.tk_engine_unit_events.specs.Refusals.{IsInnermostCause}
 use Rattle.tk_engine_unit_events.specs.UnitSteps.{UnitView, event}
 use Rattle.tk_engine_unit_events.proofs.UnitSteps.{both_err, if_err, on_ok}
@@ -16,7 +16,7 @@ use Rattle.tk_engine_hierarchical.proofs.reporters.Reporter.run_child.Goals as g
 pub returns-clause-ok : goal.returns-clause-ok
 returns-clause-ok g c =
     let finished = finish_noted _ _ _ _ _ _ c.in_ok-key.key
-    (payload_of c.in_ok-outcome.outcome) c.note-2.ensures.same c.note.ensures.events
+    c.in_ok-outcome.outcome c.note-2.ensures.same c.note.ensures.events
     c.note-2.ensures.events c.finish-finished.ensures.ok in
     let its = subst (λ r. IfOk r (g.B.Body.may_end c.args.body.now))
     (sym c.in_ok-outcome.ensures.same) c.run_body-ended.ensures.may in
@@ -28,7 +28,7 @@ pub returns-clause-child : goal.returns-clause-child
 returns-clause-child g c =
     let s = c.in_ok-key.ensures.started in
     let finished = finish_noted _ _ _ _ _ _ c.in_ok-key.key
-    (payload_of c.in_ok-outcome.outcome) c.note-2.ensures.same c.note.ensures.events
+    c.in_ok-outcome.outcome c.note-2.ensures.same c.note.ensures.events
     c.note-2.ensures.events c.finish-finished.ensures.ok in
     let ran = subst (λ r. IfOk r
     (λ outcome. g.B.Body.may_run c.args.body.now c.start_child.new.self
@@ -96,7 +96,7 @@ returns-clause-cause g c =
     (sym c.note-2.ensures.same) c.finish-finished.ensures.err in
     let its = subst (λ r. IfErr r (λ why. AtStamp c.note.new.self.events (λ n.
     IsInnermostCause c.note.new.self.events
-    (event Finished c.in_ok-key.key n (payload_of c.in_ok-outcome.outcome)) why)))
+    (event Finished c.in_ok-key.key n (Outcome c.in_ok-outcome.outcome)) why)))
     (sym c.note-2.ensures.same) c.finish-finished.ensures.cause in
     let ran = subst (λ r. IfOk r
     (λ outcome. g.B.Body.may_run c.args.body.now c.start_child.new.self
@@ -116,7 +116,7 @@ returns-clause-cause g c =
 pub returns-clause-running : goal.returns-clause-running
 returns-clause-running g c =
     let finished = finish_noted _ _ _ _ _ _ c.in_ok-key.key
-    (payload_of c.in_ok-outcome.outcome) c.note-2.ensures.same c.note.ensures.events
+    c.in_ok-outcome.outcome c.note-2.ensures.same c.note.ensures.events
     c.note-2.ensures.events c.finish-finished.ensures.ok in
     on_ok c.note-2.result finished
     (λ f. c.run_body-ended.ensures.outer c.in_ok-key.key _ _ c.in_ok-key.ensures.started.1.running
