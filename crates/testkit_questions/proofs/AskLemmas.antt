@@ -1,5 +1,5 @@
 -- An answer, from what reading and writing gave.
-use Rattle.std.proofs.Common.{sym, ◌≡◌, ◌⊎◌, arith, [], ℕ, Bool, List, Option, Some, None, Result}
+use Rattle.std.proofs.Common.{◌≡◌, ◌⊎◌, arith, [], ℕ, Bool, List, Option, Some, None, Result}
 use Rattle.std.proofs.Common.{Ok, Err, refl, subst, inl, inr}
 use Rattle.std.specs.Prelude.{IfSome, IsErrOf}
 use Rattle.std.specs.Io.KnownBytes.{Consumes, IsAtEnd}

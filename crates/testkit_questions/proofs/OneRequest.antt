@@ -1,5 +1,5 @@
 -- Words ask for one thing.
-use Rattle.std.proofs.Common.{◌≡◌, ◌≢◌, ◌∷◌, Bool, true, false, ℕ, List, Result, Ok, Err, sym, ap}
+use Rattle.std.proofs.Common.{◌≡◌, ◌≢◌, Bool, true, false, ℕ, List, Result, Ok, Err, sym, ap}
 use Rattle.std.proofs.Common.{subst, ◌∙◌, inl, inr}
 use Rattle.testkit_questions.specs.declared.faults.AskFault.{AskFault}
 use Rattle.testkit_questions.specs.declared.faults.AskFault.TheVariants as faults

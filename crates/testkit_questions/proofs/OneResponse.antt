@@ -1,6 +1,5 @@
 -- What words ask for has one response about a record.
-use Rattle.std.proofs.Common.{◌≡◌, ◌∙◌, ℕ, Bool, true, false, List, ap, refl, subst, sym}
-use Rattle.tk_record.specs.declared.selections.Selection.{Selection}
+use Rattle.std.proofs.Common.{◌≡◌, ℕ, Bool, true, false, List, subst}
 use Rattle.tk_record.specs.declared.statistics.Expected.{Expected}
 use Rattle.tk_record.specs.Recorded.{Recorded}
 use Rattle.tk_record.specs.Selections.{Selected, all_of}

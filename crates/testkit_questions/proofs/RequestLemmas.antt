@@ -1,6 +1,6 @@
 -- The faults of words: which there are, and of which there is none.
-use Rattle.std.proofs.Common.{◌≡◌, ◌≢◌, ℕ, ◌+◌, ◌∷◌, [], List, Vec, Global, map, Result, Ok, Err}
-use Rattle.std.proofs.Common.{refl, sym, ap, subst, inl, inr}
+use Rattle.std.proofs.Common.{◌≡◌, ◌≢◌, ℕ, ◌+◌, ◌∷◌, [], List, Vec, Global, Ok, Err}
+use Rattle.std.proofs.Common.{sym, subst, inl, inr}
 use Rattle.tk_record.specs.Selections.{selection_name}
 use Rattle.tk_record.specs.declared.selections.Selection.{Selection}
 use Rattle.tk_record.specs.declared.selections.Selection.TheVariants.{All}
@@ -17,7 +17,6 @@ use Rattle.testkit_questions.specs.Questions.{IsConditionsReading, IsEnd, IsExcl
 use Rattle.testkit_questions.specs.Questions.{IsMatchReading, IsReadAfter, IsStatsReading, Reading}
 use Rattle.testkit_questions.specs.Questions.{mode_name, question_word}
 use Rattle.testkit_questions.specs.Requests.{IsExplainedAs, IsNamedToExplain, IsRequestedAs}
-use Rattle.testkit_questions.specs.Requests.{explain_word}
 
 -- the faults that words have; a condition's is never that memory was refused
 abbrev pub IsFaultOfWords : AskFault → Type 0
