@@ -4,6 +4,7 @@ pub use Rattle.tk_events.specs.declared.events.Event
 pub use Rattle.tk_events.specs.declared.events.Entry
 pub use Rattle.tk_events.specs.declared.kinds.Kind
 pub use Rattle.tk_events.specs.declared.statuses.Status
+pub use Rattle.tk_events.specs.declared.outcomes.Outcome
 pub use Rattle.tk_events.specs.declared.payloads.Payload
 pub use Rattle.tk_locks.specs.NeedView
 pub use Rattle.tk_queue_session.specs.Senders
@@ -19,7 +20,6 @@ pub use Rattle.tk_engine_execute.specs.Grown
 pub use Rattle.tk_engine_events.specs.Events
 pub use Rattle.tk_engine_events.specs.Emitted
 pub use Rattle.tk_engine_events.specs.Emitters
-pub use Rattle.tk_engine_unit_events.specs.declared.outcomes.Outcome
 pub use Rattle.tk_engine_unit_events.specs.UnitSteps
 pub use Rattle.tk_engine_hierarchical.specs.Reporting
 pub mod Questions

@@ -11,7 +11,7 @@ pub use tk_engine_execute::{
 pub use tk_engine_hierarchical::{
     Body, Context, EventClock, Hierarchical, Reporter, Tests, run_tests,
 };
-pub use tk_engine_unit_events::Outcome;
+pub use tk_events::Outcome;
 pub use tk_locks::{BookSeat, Need};
 pub use tk_overlaps::Meeting;
 pub use tk_queue_session::{RegisterFault, SendFault};

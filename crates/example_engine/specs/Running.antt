@@ -6,13 +6,9 @@ use Rattle.engine_testkit.specs.Descriptor.{Descriptor}
 use Rattle.engine_testkit.specs.Event.{Event}
 use Rattle.engine_testkit.specs.Events.{file_published, finished, registered, reported}
 use Rattle.engine_testkit.specs.Events.{skipped, started}
-use Rattle.engine_testkit.specs.Status.{Status}
-use Rattle.engine_testkit.specs.Status.TheVariants.{Successful, Failed}
+use Rattle.engine_testkit.specs.Outcome.{Outcome}
+use Rattle.engine_testkit.specs.Outcome.TheVariants.{Successful, Failed}
 use Rattle.example_engine.specs.declared.cases.Case.{Case}
-
--- a success exactly where the function has the value that the case expects
-abbrev pub status_of : (ℕ → ℕ) → Case → Status
-status_of value c = if value c.argument == c.expected then Successful else Failed
 
 -- the message of a case that fails
 abbrev pub failure_text : ℕ → ℕ → List ℕ
@@ -20,19 +16,19 @@ failure_text expected actual =
     codes "expected: <"
     ++ (decimal expected ++ (codes "> but was: <" ++ (decimal actual ++ codes ">")))
 
--- a message with both values, where the function has another value
-abbrev pub message_of : (ℕ → ℕ) → Case → Option (List ℕ)
-message_of value c =
-    if value c.argument == c.expected then None
-    else Some (failure_text c.expected (value c.argument))
+-- a success exactly where the function has the value that the case expects, and else a failure
+-- with both values
+abbrev pub outcome_of : (ℕ → ℕ) → Case → Outcome
+outcome_of value c =
+    if value c.argument == c.expected then Successful
+    else Failed (Some (failure_text c.expected (value c.argument)))
 
 -- The case with the number i is registered under a key, starts, and finishes as the function's
 -- value says.
 abbrev pub IsCaseRun : (ℕ → ℕ) → ℕ → Case → List Event → Type 0
 IsCaseRun value i c es =
     (key : ℕ) × (d : Descriptor)
-    × (es ≡ registered key i d ∷ started key i
-    ∷ finished key i (status_of value c) (message_of value c) ∷ [])
+    × (es ≡ registered key i d ∷ started key i ∷ finished key i (outcome_of value c) ∷ [])
 
 -- the first n cases run, one after another
 abbrev pub AreCaseRuns : (ℕ → ℕ) → List Case → ℕ → List Event → Type 0
@@ -53,7 +49,7 @@ path_of name = codes "out/" ++ name ++ codes ".txt"
 abbrev pub last_events : List ℕ → ℕ → ℕ → List Event
 last_events name n key =
     reported key n (entry_of n) ∷ file_published key n (path_of name)
-    ∷ finished key n Successful None ∷ []
+    ∷ finished key n Successful ∷ []
 
 -- A table is skipped for its reason. Or it starts, runs its cases, publishes an entry and a file,
 -- and finishes. The stamp of its events is the number of its cases.

@@ -7,7 +7,7 @@ use std::thread::Threads;
 use test_support::is_written_as;
 use tk_engine_execute::{OUT_OF_ORDER, Results, RunFault, TWICE, UnitFault};
 use tk_engine_hierarchical::{Body, Context, Hierarchical, Reporter, Tests};
-use tk_engine_unit_events::Outcome;
+use tk_events::Outcome;
 use tk_ids::LockMode;
 use tk_plan_code::{ExecutionMode, PlanNode};
 use tk_query_lifecycle::Lifecycle;

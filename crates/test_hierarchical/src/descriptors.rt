@@ -6,7 +6,7 @@ use std::thread::Threads;
 use test_support::is_written_as;
 use tk_engine_execute::UnitFault;
 use tk_engine_hierarchical::{Body, Context, Hierarchical, Reporter, Tests};
-use tk_engine_unit_events::Outcome;
+use tk_events::Outcome;
 use tk_plan_code::{ExecutionMode, PlanNode};
 
 // A body that succeeds where no static descriptor runs.

@@ -5,7 +5,7 @@ use std::sync::Wait;
 use std::thread::Threads;
 use tk_engine_execute::UnitFault;
 use tk_engine_hierarchical::{Body, Context, Reporter, Tests};
-use tk_engine_unit_events::Outcome;
+use tk_events::Outcome;
 use tk_plan_code::PlanNode;
 
 // The body of a dynamic test.

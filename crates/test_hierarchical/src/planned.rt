@@ -8,8 +8,7 @@ use test_support::{is_written_as, record_of};
 use tk_engine_execute::{Results, UnitFault};
 use tk_engine_hierarchical::{Context, Reporter, Tests};
 use tk_engine_scripted::Scripted;
-use tk_engine_unit_events::Outcome;
-use tk_events::Status;
+use tk_events::Outcome;
 use tk_plan_code::{ExecutionMode, PlanNode};
 use tk_plan_reading::build_plan;
 use tk_report_text::write_report_of;
@@ -45,7 +44,7 @@ fn publishing(alloc: Global) -> Result<PlanNode<'static>, AllocError> {
 // A dynamic test with an entry and a file, which fails.
 fn failing(alloc: Global) -> Result<PlanNode<'static>, AllocError> {
     PlanNode::test(alloc, ("d", "3"), "three")
-        .outcome(Status::Failed, Some("boom"))
+        .outcome(Outcome::failed(alloc, "boom")?)
         .entry(pairs(alloc)?)?
         .file("out")
 }
@@ -54,7 +53,7 @@ fn failing(alloc: Global) -> Result<PlanNode<'static>, AllocError> {
 fn container(alloc: Global) -> Result<PlanNode<'static>, AllocError> {
     PlanNode::container(alloc, ("c", "1"), "one")
         .mode(ExecutionMode::Concurrent)
-        .outcome(Status::Aborted, Some("stop"))
+        .outcome(Outcome::aborted(alloc, "stop")?)
         .entry(pairs(alloc)?)?
         .file("out")?
         .child(publishing(alloc)?)?

@@ -7,7 +7,7 @@ use std::thread::Threads;
 use test_support::{Ending, is_done, refused_if};
 use tk_engine_execute::{RunFault, SinkFault, UnitFault, execute};
 use tk_engine_hierarchical::{Context, Hierarchical, Reporter, Tests};
-use tk_engine_unit_events::Outcome;
+use tk_events::Outcome;
 use tk_plan_code::PlanNode;
 use tk_plan_reading::build_plan;
 use tk_queue_session::RegisterFault;

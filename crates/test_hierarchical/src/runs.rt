@@ -6,7 +6,7 @@ use std::sync::{Mutex, Wait};
 use std::thread::Threads;
 use tk_engine_execute::{RunFault, UnitFault};
 use tk_engine_hierarchical::{Context, Reporter, Tests, run_tests};
-use tk_engine_unit_events::Outcome;
+use tk_events::Outcome;
 use tk_plan_code::PlanNode;
 
 // Whether a run by one worker has the record of the sample.

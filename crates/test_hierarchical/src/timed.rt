@@ -9,7 +9,7 @@ use std::time::{Clock, Duration, Instant};
 use test_support::is_written_as;
 use tk_engine_execute::UnitFault;
 use tk_engine_hierarchical::{Body, Context, EventClock, Hierarchical, Reporter, Tests};
-use tk_engine_unit_events::Outcome;
+use tk_events::Outcome;
 use tk_plan_code::PlanNode;
 use tk_plan_reading::build_plan;
 

@@ -11,7 +11,7 @@ use std::sync::{Arc, Wait};
 use std::thread;
 use test_support::start;
 use tk_engine_execute::{Engine, Sink, UnitFault};
-use tk_events::{Event, Kind, Payload, Status};
+use tk_events::{Event, Kind, Outcome, Payload};
 use tk_ids::{DType, Segment, Table};
 use tk_locks::{BookSeat, Need};
 
@@ -251,7 +251,7 @@ fn finish(key: u32) -> Event {
         kind: Kind::Finished,
         key,
         stamp: 0,
-        payload: Payload::Outcome(Status::Successful, None),
+        payload: Payload::Outcome(Outcome::Successful),
     }
 }
 

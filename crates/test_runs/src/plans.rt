@@ -4,7 +4,7 @@ ghost use Rattle.tk_plan.specs.Known.{IsKnown};
 
 use std::alloc::{AllocError, Global};
 use test_support::demo_plan;
-use tk_events::{Event, Status};
+use tk_events::{Event, Outcome};
 use tk_ids::Text;
 use tk_plan::{Act, Plan, Step};
 use tk_plan_reading::read_plan;
@@ -166,10 +166,10 @@ fn is_path(path: &str, file: u32) -> bool {
 }
 
 // Whether node 1 is aborted with a message, and node 0 fails without one.
-fn is_outcome(outcome: (Status, Option<&str>), node: u32) -> bool {
-    match node {
-        0 => matches!(outcome, (Status::Failed, None)),
-        1 => matches!(outcome, (Status::Aborted, Some("m"))),
+fn is_outcome(outcome: &Outcome, node: u32) -> bool {
+    match (node, outcome) {
+        (0, Outcome::Failed(None)) => true,
+        (1, Outcome::Aborted(Some(message))) => message.as_str() == "m",
         _ => false,
     }
 }

@@ -5,8 +5,8 @@ use crate::ends::{Answer, TakenItem, emitted, one_sender, send, take, two_sender
 use std::alloc::Global;
 use std::sync::Wait;
 use test_support::start;
-use tk_events::{Event, Kind, Payload, Status};
-use tk_ids::{DType, IdFault, Segment, Text};
+use tk_events::{Event, Kind, Payload};
+use tk_ids::{DType, IdFault, Segment};
 use tk_queue_session::{CloseFault, CloseReason, Ended, Receiver, RegisterFault, Sender};
 
 // Why the session isn't closed yet, with all that comes back.
@@ -179,16 +179,15 @@ fn are_refused<R: Wait>(rt: &R, alloc: Global, segment: &Segment, sender: &mut S
         && long_registration(rt, alloc, sender) == Some(RegisterFault::Id(IdFault::TooLong))
 }
 
-// What a sender answers to a success with a message.
-fn success_with_message<R: Wait>(rt: &R, alloc: Global, sender: &mut Sender) -> Option<Answer> {
-    let message = Text::copy(alloc, "no").ok()?;
+// What a sender answers to a finish that has no outcome.
+fn finish_without_outcome<R: Wait>(rt: &R, sender: &mut Sender) -> Answer {
     let finish = Event {
         kind: Kind::Finished,
         key: 0,
         stamp: 0,
-        payload: Payload::Outcome(Status::Successful, Some(message)),
+        payload: Payload::Nothing,
     };
-    Some(send(rt, sender, finish))
+    send(rt, sender, finish)
 }
 
 // Whether all of that holds in a session of two senders.
@@ -196,9 +195,9 @@ fn registrations_hold<R: Wait>(rt: &R, alloc: Global) -> Option<bool> {
     let segment = Segment::new(alloc, "dyn", "1").ok()?;
     let (mut first, mut second, mut receiver) = two_senders(alloc, 4)?;
     let hold = is_registered(rt, &segment, &mut first, &mut second, &mut receiver)
-        && are_refused(rt, alloc, &segment, &mut first);
-    let message = success_with_message(rt, alloc, &mut second);
-    Some(hold && message == Some(Answer::Unlawful(0)))
+        && are_refused(rt, alloc, &segment, &mut first)
+        && finish_without_outcome(rt, &mut second) == Answer::Unlawful(0);
+    Some(hold)
 }
 
 #[test]

@@ -1,13 +1,13 @@
 //! The engine of tables of cases, which emits its events itself.
 #![tactic(auto, using(engine_testkit::proofs::Emissions::emissions))]
 
-ghost use Rattle.std.specs.Prelude.{◌≡◌, ◌+◌, [], ◌∷◌, None, length, ◌≤◌, slice_get, IfOk, IfSome, OnOk};
+ghost use Rattle.std.specs.Prelude.{◌≡◌, ◌+◌, [], ◌∷◌, length, ◌≤◌, slice_get, IfOk, IfSome, OnOk};
 ghost use Rattle.std.specs.Option.{option_copied};
 
 use crate::by_hand::running::run_table;
 use crate::cases::{CaseTable, Function};
 use engine_testkit::{
-    BookSeat, DType, Engine, Event, Need, Segment, Sink, Status, Table, TableFault, UnitFault,
+    BookSeat, DType, Engine, Event, Need, Outcome, Segment, Sink, Table, TableFault, UnitFault,
     finished, started,
 };
 use std::alloc::{AllocError, Global};
@@ -101,7 +101,7 @@ impl<'a, F: Function + Sync> CaseEngine<'a, F> {
 
 impl<F: Function + Sync> Engine for CaseEngine<'_, F> {
     ghost use Rattle.engine_testkit.specs.Events.{finished, started};
-    ghost use Rattle.engine_testkit.specs.Status.TheVariants.{Successful};
+    ghost use Rattle.engine_testkit.specs.Outcome.TheVariants.{Successful};
     ghost use Rattle.example_engine.specs.Running.{IsTableRun};
 
     ghost table = { λ e. e.descriptors };
@@ -110,7 +110,7 @@ impl<F: Function + Sync> Engine for CaseEngine<'_, F> {
 
     ghost before = { λ e. started 0 0 ∷ [] };
 
-    ghost after = { λ e. finished 0 0 Successful None ∷ [] };
+    ghost after = { λ e. finished 0 0 Successful ∷ [] };
 
     ghost need = { λ e u. e.need };
 
@@ -134,7 +134,7 @@ impl<F: Function + Sync> Engine for CaseEngine<'_, F> {
     fn after(&self, alloc: Global) -> Result<Vec<Event>, AllocError> {
         // For the proof: the root is among the descriptors.
         let _descriptors = &self.descriptors;
-        Ok(vec![in alloc; finished(0, 0, Status::Successful, None)]?)
+        Ok(vec![in alloc; finished(0, 0, Outcome::Successful)]?)
     }
 
     fn need(&self, _unit: u32) -> Need {

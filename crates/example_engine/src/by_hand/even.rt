@@ -4,10 +4,10 @@
 ghost use Rattle.std.specs.Prelude.{◌≡◌, ◌<◌, ◌%◌, ◌==◌, if◌then◌else◌, [], ◌∷◌, None, IfOk, length};
 ghost use Rattle.std.specs.Arc.{arc_value};
 ghost use Rattle.engine_testkit.specs.Events.{finished, started};
-ghost use Rattle.engine_testkit.specs.Status.TheVariants.{Failed, Successful};
+ghost use Rattle.engine_testkit.specs.Outcome.TheVariants.{Failed, Successful};
 
 use engine_testkit::{
-    BookSeat, DType, Engine, Event, Need, Segment, Sink, Status, Table, TableFault, UnitFault,
+    BookSeat, DType, Engine, Event, Need, Outcome, Segment, Sink, Table, TableFault, UnitFault,
     finish, finished, start, started,
 };
 use std::alloc::{AllocError, Global};
@@ -52,12 +52,12 @@ impl Engine for EvenEngine {
 
     ghost before = { λ e. started 0 0 ∷ [] };
 
-    ghost after = { λ e. finished 0 0 Successful None ∷ [] };
+    ghost after = { λ e. finished 0 0 Successful ∷ [] };
 
     ghost need = { λ e u. e.need };
 
     ghost may = { λ e u w k l. l ≡ started 1 0
-        ∷ finished 1 0 (if e.number % 2 == 0 then Successful else Failed) None ∷ [] };
+        ∷ finished 1 0 (if e.number % 2 == 0 then Successful else Failed None) ∷ [] };
 
     fn table(&self) -> &Arc<Table> {
         &self.table
@@ -76,7 +76,7 @@ impl Engine for EvenEngine {
     fn after(&self, alloc: Global) -> Result<Vec<Event>, AllocError> {
         // For the proof: the root is there.
         let _table = &self.table;
-        Ok(vec![in alloc; finished(0, 0, Status::Successful, None)]?)
+        Ok(vec![in alloc; finished(0, 0, Outcome::Successful)]?)
     }
 
     fn need(&self, _unit: u32) -> Need {
@@ -92,10 +92,10 @@ impl Engine for EvenEngine {
         sink: &mut S,
     ) -> Result<(), UnitFault> {
         start(rt, 1, 0, sink)?;
-        let status = match self.number % 2 {
-            0 => Status::Successful,
-            _ => Status::Failed,
+        let outcome = match self.number % 2 {
+            0 => Outcome::Successful,
+            _ => Outcome::Failed(None),
         };
-        finish(rt, 1, 0, status, None, sink)
+        finish(rt, 1, 0, outcome, sink)
     }
 }

@@ -6,11 +6,11 @@ ghost use Rattle.std.specs.Option.{option_copied};
 ghost use Rattle.engine_testkit.specs.Emitted.{Emitted, EmittedAs};
 ghost use Rattle.engine_testkit.specs.Events.{file_published, finished, reported, started};
 ghost use Rattle.engine_testkit.specs.Grown.{Grew};
-ghost use Rattle.example_engine.specs.Running.{status_of, failure_text, message_of, entry_of, path_of, last_events, IsCaseRun, AreCaseRuns, IsTableRun};
+ghost use Rattle.example_engine.specs.Running.{outcome_of, failure_text, entry_of, path_of, last_events, IsCaseRun, AreCaseRuns, IsTableRun};
 
 use crate::cases::{Case, CaseTable, Function};
 use engine_testkit::{
-    DType, Pairs, Segment, Sink, Status, Text, UnitFault, finish, publish_file, register, report,
+    DType, Outcome, Pairs, Segment, Sink, Text, UnitFault, finish, publish_file, register, report,
     skip, start,
 };
 use std::alloc::{AllocError, Global};
@@ -24,22 +24,14 @@ fn failure_of(alloc: Global, expected: u64, actual: u64) -> Result<Text, AllocEr
 }
 
 // A case's outcome: a success, or a failure with both values.
-fn outcome_of<F: Function>(
-    alloc: Global,
-    function: &F,
-    case: Case,
-) -> Result<(Status, Option<Text>), AllocError>
-    ensures status { IfOk result (λ r. r.0 ≡ status_of (F.value function.now) case) }
-    ensures message { IfOk result (λ r. r.1 ≡ message_of (F.value function.now) case) }
+fn outcome_of<F: Function>(alloc: Global, function: &F, case: Case) -> Result<Outcome, AllocError>
+    ensures { IfOk result (λ outcome. outcome ≡ outcome_of (F.value function.now) case) }
 {
     let actual = function.value(case.argument);
     if actual == case.expected {
-        return Ok((Status::Successful, None));
+        return Ok(Outcome::Successful);
     }
-    Ok((
-        Status::Failed,
-        Some(failure_of(alloc, case.expected, actual)?),
-    ))
+    Ok(Outcome::Failed(Some(failure_of(alloc, case.expected, actual)?)))
 }
 
 // Starts a registered case, and finishes it.
@@ -54,13 +46,12 @@ fn run_registered<F: Function, R: Wait, S: Sink>(
 ) -> Result<(), UnitFault>
     ensures ok { OnOk result (Emitted (S.view sink.old) (S.view sink.new)
         (started key stamp
-        ∷ finished key stamp (status_of (F.value function.now) case)
-        (message_of (F.value function.now) case) ∷ [])) }
+        ∷ finished key stamp (outcome_of (F.value function.now) case) ∷ [])) }
     ensures grew { Grew (S.view sink.old) (S.view sink.new) }
 {
     start(rt, key, stamp, sink)?;
-    let (status, message) = outcome_of(alloc, function, case)?;
-    finish(rt, key, stamp, status, message, sink)
+    let outcome = outcome_of(alloc, function, case)?;
+    finish(rt, key, stamp, outcome, sink)
 }
 
 // Runs a case as a dynamic test, with the case's number as stamp.
@@ -153,7 +144,7 @@ fn finish_table<R: Wait, S: Sink>(
     let cases = table.cases.len() as u64;
     report_number(rt, alloc, cases, key, sink)?;
     publish_log(rt, alloc, table.name, cases, key, sink)?;
-    finish(rt, key, cases, Status::Successful, None, sink)
+    finish(rt, key, cases, Outcome::Successful, sink)
 }
 
 /// Runs a table: a skip, or a start, the cases, a report entry, a file and a finish.
