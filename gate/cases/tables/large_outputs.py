@@ -3,7 +3,7 @@
 from harness import Case, Output
 from tables.building import as_words
 from tables.large_plans import CONCURRENT, nodes, plan, report_of
-from tables.long_replays import long_replay, long_replay_record
+from tables.long_inputs import long_replay, long_replay_record
 from tables.many_events import many_events, many_executions, many_explained_skips, many_skips
 
 CASES = [

@@ -1,8 +1,8 @@
-"""What `ask` answers: statistics, selections, matches and executions."""
+"""What `ask` answers: statistics, matches, executions and reports, of all events and of those that a selection picks."""
 
 import form
-from tables.building import answer, lines_of, no, record, rows, stats
-from tables.texts import BOTH_KINDS, EMPTY, ONE_START, REGISTERED_TEST, TWO_TESTS
+from tables.building import answer, fault, lines_of, no, record, rows, stats
+from tables.texts import BOTH_KINDS, CUT, DEEP, EMPTY, ONE_START, REGISTERED_TEST, TWO_TESTS
 
 TWO_TESTS_STATS = stats(skipped=1, started=2, finished=2, succeeded=1, failed=1)
 TWO_TESTS_PICKS = dict(all=range(5), tests=(1, 2, 3), containers=(0, 4), skipped=(3,), started=(0, 1), finished=(2, 4))
@@ -58,6 +58,13 @@ def missed_alone(name: str):
     return missed(f"expectations/{name} alone", f"{name}=9", TWO_TESTS, TWO_TESTS_STATS + line)
 
 
+ODD_IDS = record("N|C|[a:\\p]|bar", "N|C|[a:b]|letter", "N|C|[a:\\n]|line feed", "E|0|0|0|start", "E|0|1|0|start", "E|0|2|0|start")
+REPORTED_OF_ONE_ID = record(
+    *("N|C|[engine:z]|z", "N|C|[engine:a]|a"),
+    *("E|1|65536|0|dynamic|T|[engine:a]/[d:1]|one", "E|2|131072|1|dynamic|T|[engine:a]/[d:1]|one"),
+    *("E|2|131072|2|start", "E|0|0|3|start", "E|1|65536|4|start"),
+)
+
 ALL_MISSED = "".join(f"mismatch {name} expected 7 actual 0\n" for name in form.STATISTICS)
 
 CASES = rows(__file__, globals()) + [
@@ -72,4 +79,8 @@ CASES = rows(__file__, globals()) + [
     answer("match/in-order, sixty-five starts", "ask match in-order" + " started" * 65, SIXTY_FIVE_STARTS, "yes " + " ".join(map(str, range(65)))),
     no("match/in-order, sixty-six of sixty-five starts", "ask match in-order" + " started" * 66, SIXTY_FIVE_STARTS, "no 65"),
     no("files/asked of version 1", "ask match loosely not(kind(file)) kind(file)", VERSION_1, "no 1"),
+    *[
+        answer(f"stats of/{title}, all", "ask stats all", text, stats(**{it: len(picks.get(it, ())) for it in form.STATISTICS}))
+        for title, text, picks in SELECTED
+    ],
 ]

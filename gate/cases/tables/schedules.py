@@ -1,7 +1,9 @@
-"""A thousand runs of one plan by fifteen workers: in each schedule the same report."""
+"""Runs by many threads: how many there are, and a thousand runs of one plan, which have in each schedule the same report."""
 
 import form
-from tables.building import answer, stats
+from harness import Case, ThreadCount
+from tables.building import answer, as_words, stats
+from tables.large_plans import CONCURRENT, nodes, plan, report_of
 from tables.plan_texts import children, dynamic, node, plan_of
 
 RUNS = 1000
@@ -34,4 +36,16 @@ REPORT = (
     )
 )
 
-CASES = [answer(f"schedules/{number}", f"run --workers {form.MAX_WORKERS}", PLAN, REPORT) for number in range(1, RUNS + 1)]
+
+def many_units() -> bytes:
+    """A plan of 10,000 units: enough for all workers to have started before the first one is done."""
+    return plan(nodes("children", 10_000, CONCURRENT))
+
+
+THREADS = [
+    ThreadCount(Case(f"threads/{words}", as_words(words), many_units, lambda: report_of(10_000)), workers + 1)
+    for words, workers in [("run", 1), ("run --workers=2", 2), *((f"run --workers {it}", it) for it in range(1, form.MAX_WORKERS + 1))]
+]
+"""A run has a thread for each worker beside the one that it starts with."""
+
+CASES = THREADS + [answer(f"schedules/{number}", f"run --workers {form.MAX_WORKERS}", PLAN, REPORT) for number in range(1, RUNS + 1)]
