@@ -21,13 +21,16 @@ class Unknown(Exception):
     """Git doesn't say what the tree is."""
 
 
+class Changed(Unknown):
+    """A file of the work tree isn't as it was committed."""
+
+
 @dataclass(frozen=True)
 class State:
-    """The commit that is checked out, its tree, and the first file that differs from it, or nothing."""
+    """The commit that is checked out, and its tree."""
 
     commit: str
     tree: str
-    changed: str
 
 
 @dataclass(frozen=True)
@@ -53,10 +56,11 @@ def git(top: str, *words: str, given: bytes = b"") -> bytes:
 
 
 def state_of(top: str) -> State:
-    """Reads the state of a work tree, in which files that git doesn't ignore count as changes."""
-    commit, tree = git(top, "rev-parse", "HEAD", "HEAD^{tree}").decode().split()
+    """Reads the state of a clean work tree; files that git doesn't ignore count as changes."""
     status = git(top, "-c", "core.fileMode=true", "status", "--porcelain", "--untracked-files=all").decode(errors="replace")
-    return State(commit, tree, next((line[3:] for line in status.splitlines()), ""))
+    for line in status.splitlines():
+        raise Changed(f"{line[3:]} is not as it was committed")
+    return State(*git(top, "rev-parse", "HEAD", "HEAD^{tree}").decode().split())
 
 
 def hash_of(path: str) -> str:
