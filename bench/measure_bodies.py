@@ -6,7 +6,7 @@ seconds of processor time and by the clock, medians of five runs in turn; the ra
 """
 
 import building
-import plans
+import inputs
 import timing
 
 TESTS = 20_000
@@ -16,7 +16,7 @@ MODES = {"each a unit": "concurrent", "one unit": "same_thread"}
 
 def measure(folder: str) -> None:
     for mode in MODES.values():
-        building.apart(plans.write, f"{folder}/{mode}", lambda mode=mode: dict(children=[plans.test("t", str(it), mode=mode) for it in range(TESTS)]))
+        building.apart(inputs.write_plan, f"{folder}/{mode}", lambda mode=mode: dict(children=[inputs.test("t", str(it), mode=mode) for it in range(TESTS)]))
     program = building.build_program(folder, LINE, "bodies/main.rt.in", f"{folder}/concurrent")
     for shape, mode in MODES.items():
         bodies, scripted = timing.take([[program, "bodies"], [program]], f"{folder}/{mode}", folder)

@@ -13,23 +13,23 @@ import statistics
 from typing import Callable, Dict, List
 
 import building
-import plans
+import inputs
 import timing
-from plans import Node, test
+from inputs import Node, test
 
 LINE = "plan_bench: tk_plan_reading tk_plan tk_locks tk_events tk_ids serde_json indexmap"
 
 
 def classes() -> Node:
     methods = [test("method", f"method{it}()", "n" * 150, mode="concurrent", locks=[]) for it in range(99)]
-    return dict(children=[plans.container("class", f"class{it}", methods, mode="concurrent") for it in range(655)])
+    return dict(children=[inputs.container("class", f"class{it}", methods, mode="concurrent") for it in range(655)])
 
 
 SHAPES: Dict[str, Callable[[], Node]] = {
     "static-small": lambda: dict(children=[test("t", str(it)) for it in range(65_535)]),
     "static": classes,
     "dynamic": lambda: dict(dynamic=[test("row", str(it), "n" * 160, result=dict(status="successful")) for it in range(65_536)]),
-    "deep": lambda: dict(children=plans.chain(57, [test("m", str(it), "n" * 180) for it in range(65_000)])),
+    "deep": lambda: dict(children=inputs.chain(57, [test("m", str(it), "n" * 180) for it in range(65_000)])),
     "entries": lambda: dict(children=[test("t", str(it), entries=[[["key", "value"], ["other", "value"]]] * 10) for it in range(34_000)]),
     "strings": lambda: dict(children=[test("t", str(it), "n" * 8_000) for it in range(2_000)]),
 }
@@ -43,7 +43,7 @@ def seconds(command: List[str], path: str) -> List[float]:
 
 def measure(folder: str) -> None:
     for shape, members in SHAPES.items():
-        building.apart(plans.write, f"{folder}/{shape}", members)
+        building.apart(inputs.write_plan, f"{folder}/{shape}", members)
     program = building.build_program(folder, LINE, "plan/main.rt.in", f"{folder}/static-small")
     for shape in SHAPES:
         path = f"{folder}/{shape}"

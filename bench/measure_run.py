@@ -10,9 +10,9 @@ import os
 from typing import Any, Callable, Dict, List
 
 import building
-import plans
+import inputs
 import timing
-from plans import Node, container, test
+from inputs import Node, container, test
 
 WORKERS = [1, 2, 4]
 
@@ -28,7 +28,7 @@ def groups(**members: Any) -> List[Node]:
 PLANS: Dict[str, Callable[[], Node]] = {
     "groups": lambda: dict(mode="concurrent", children=groups()),
     "entries": lambda: dict(mode="concurrent", children=groups(entries=[[[f"k{entry}", "v"]] for entry in range(40)])),
-    "chain": lambda: dict(mode="concurrent", children=plans.chain(57, tests(65_000), mode="concurrent")),
+    "chain": lambda: dict(mode="concurrent", children=inputs.chain(57, tests(65_000), mode="concurrent")),
 }
 """The members of the root of each plan."""
 
@@ -38,7 +38,7 @@ def measure(folder: str, program: str) -> None:
     print(timing.load())
     for name, members in PLANS.items():
         plan = f"{folder}/{name}"
-        building.apart(plans.write, plan, members)
+        building.apart(inputs.write_plan, plan, members)
         print(f"{name}: {os.path.getsize(plan) / 1e6:.1f} MB of JSON")
         for workers in WORKERS:
             of_run = ["run", "--workers", str(workers)]

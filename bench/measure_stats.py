@@ -10,7 +10,7 @@ import filecmp
 import os
 
 import building
-import records
+import inputs
 import timing
 
 QUESTIONS = [
@@ -19,7 +19,7 @@ QUESTIONS = [
     ("many_tests", ["stats"]),
     ("large", ["executions"]),
     ("large", ["list", "all"]),
-    ("large", ["match", "in-order", *(f"failed(step {number})" for number in range(records.STEPS))]),
+    ("large", ["match", "in-order", *(f"failed(step {number})" for number in range(inputs.STEPS))]),
     ("large", ["match", "loosely", "failed(the last event)"]),
 ]
 
@@ -28,7 +28,7 @@ def measure(folder: str, program: str) -> None:
     plain = building.compile_plain(folder, "stats/plain.rs")
     for name, question in QUESTIONS:
         path = f"{folder}/{name}"
-        building.apart(records.write, path, name)
+        building.apart(inputs.write_record, path, name)
         size = os.path.getsize(path) / 2**20
         ours, theirs = timing.take([[program, "ask", *question], [plain, *question]], path, folder)
         agree = filecmp.cmp(ours.output, theirs.output, shallow=False)

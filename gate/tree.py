@@ -25,10 +25,3 @@ class Tree:
         """The text of a file; nothing where there is none."""
         found = Path(f"{self.top}/{path}")
         return found.read_text(encoding="utf-8", errors="replace") if found.exists() else ""
-
-    def libraries_below(self, crate: str) -> List[str]:
-        """The libraries of the repository below a crate, each once."""
-        found: List[str] = []
-        for it in self.crates[crate]:
-            found += [library for library in [*self.libraries_below(it), it] if library not in found]
-        return found

@@ -2,13 +2,12 @@
 
 The names of the tree are the words of its code (comments aside), of its scripts, of crates.txt and of the names of its files. A name in
 backquotes looks like code where it stands alone, as `Record` or `Book::acquire`, or where it has an underscore or a capital within.
-A crate's README may use the names of the crate, of the crates below it, and of those that it names; the other documents
-may use all. Names of others, as JUnit's, stand in `other_names.txt`.
+Names of others, as JUnit's, stand in `other_names.txt`.
 """
 
 import os
 import re
-from typing import Dict, FrozenSet, List, Sequence, Set
+from typing import Dict, List, Sequence, Set
 
 from documents import Document
 from tree import Tree
@@ -25,40 +24,29 @@ ALONE = re.compile(r"[\w:.()?&<>]+")
 """A span that is one name, one with its type or its crate, or a call."""
 
 
-class Names:
-    """The names of a tree: of each crate, and of all other files."""
+def names_of(tree: Tree) -> Set[str]:
+    """The names of a tree."""
+    found: Set[str] = set()
+    for path in [it for it in tree.files if not it.endswith(".md") and it != OTHERS]:
+        mark = COMMENTS.get(os.path.splitext(path)[1])
+        code = [line.partition(mark)[0] if mark else line for line in tree.text(path).split("\n")]
+        found.update(WORD.findall(path), *map(WORD.findall, code))
+    return found
 
-    def __init__(self, tree: Tree) -> None:
-        self.tree = tree
-        self.words: Dict[str, Set[str]] = {"": set()}
-        for path in [it for it in tree.files if not it.endswith(".md") and it != OTHERS]:
-            parts = path.split(os.sep)
-            mark = COMMENTS.get(os.path.splitext(path)[1])
-            code = [line.partition(mark)[0] if mark else line for line in tree.text(path).split("\n")]
-            found = self.words.setdefault(parts[1] if parts[0] == "crates" and len(parts) > 2 else "", set())
-            found.update(WORD.findall(path), *map(WORD.findall, code))
 
-    def known_to(self, document: Document) -> FrozenSet[str]:
-        """The names that a document may use: all, or in a crate's README those of the crate, of those below it, and of those that it names."""
-        crates, found = set(self.tree.crates), re.fullmatch(r"crates/(\w+)/README\.md", document.path)
-        if found:
-            named = {crate for crate in crates if re.search(rf"\b{crate}\b", document.text)} | {found[1]} & crates
-            crates = named.union(*map(self.tree.libraries_below, named))
-        return frozenset().union(*(self.words.get(crate, ()) for crate in ["", *crates]))
-
-    def unknown_of(self, document: Document) -> Dict[str, int]:
-        """The names in backquotes that the tree doesn't have, each with the number of its first line."""
-        known, found = self.known_to(document), {}
-        for number, span in document.spans():
-            if is_path(span):
-                # (what a build makes is no file of the repository, built or not)
-                is_there = os.path.exists(os.path.join(self.tree.top, span)) and "out" not in span.split("/")
-                unknown = [] if is_there else [span]
-            else:
-                unknown = [word for word in names_in(span) if word not in known]
-            for name in unknown:
-                found.setdefault(name, number)
-        return found
+def unknown_of(tree: Tree, known: Set[str], document: Document) -> Dict[str, int]:
+    """The names in backquotes that are not known, each with the number of its first line."""
+    found: Dict[str, int] = {}
+    for number, span in document.spans():
+        if is_path(span):
+            # (what a build makes is no file of the repository, built or not)
+            is_there = os.path.exists(os.path.join(tree.top, span)) and "out" not in span.split("/")
+            unknown = [] if is_there else [span]
+        else:
+            unknown = [word for word in names_in(span) if word not in known]
+        for name in unknown:
+            found.setdefault(name, number)
+    return found
 
 
 def is_path(span: str) -> bool:
@@ -76,11 +64,11 @@ def names_in(span: str) -> List[str]:
 
 def name_faults(tree: Tree, documents: Sequence[Document]) -> List[str]:
     """The names in backquotes that are not there, and the names of others that no document needs."""
-    names, needed = Names(tree), set()
+    known, needed = names_of(tree), set()
     others = [name for line in tree.text(OTHERS).split("\n") for name in line.partition("#")[0].split()]
     faults = []
     for document in documents:
-        unknown = names.unknown_of(document)
+        unknown = unknown_of(tree, known, document)
         needed |= set(unknown)
         faults += [f"{document.path}:{number}: there is no {name}" for name, number in unknown.items() if name not in others]
     return faults + [f"other_names.txt: no document needs {name}" for name in others if name not in needed]

@@ -5,13 +5,15 @@ from dataclasses import dataclass
 from typing import Callable, Dict, List, Sequence
 
 import calls
-import files
 import headline
 from facade import unnamed_words, unused_names
 from reach import reach_faults
 from restated import restated
-from sources import sources_of
+from sources import Source, sources_of
 from tree import Tree
+
+MOST_COLUMNS = 100
+"""How many columns a line of a clause and of specs/ may have."""
 
 
 @dataclass(frozen=True)
@@ -42,8 +44,8 @@ def rules_of(tree: Tree, limits: Limits) -> Dict[str, Rule]:
         "each word of their clauses can be named": lambda: unnamed_words(tree, sources),
         "no fewer wrong bodies than there were": lambda: fewer("wrong bodies", len(wrong_bodies), limits.fewest_wrong_bodies),
         "no fewer tests than there were": lambda: fewer("tests", len(tests), limits.fewest_tests),
-        "no code is unsafe or foreign": lambda: files.unsafe(sources),
-        "lines of clauses and definitions can be read": lambda: files.long_lines(tree, sources),
+        "no code is unsafe or foreign": lambda: unsafe(sources),
+        "lines of clauses and definitions can be read": lambda: long_lines(tree, sources),
         "specs/steps has what no public contract reaches, and nothing else": lambda: reach_faults(tree),
         "no more lemmas say the same than did": lambda: restated(tree, limits.most_restated),
         "each word of the headline is read": lambda: headline.unread_words(tree, sources),
@@ -53,3 +55,17 @@ def rules_of(tree: Tree, limits: Limits) -> Dict[str, Rule]:
 
 def fewer(what: str, count: int, least: int) -> List[str]:
     return [f"there are {count} {what}, and have to be {least}"] if count < least else []
+
+
+def unsafe(sources: Sequence[Source]) -> List[str]:
+    """Lines of code that are unsafe or foreign."""
+    lines = [(f"{it.path}:{number}", line) for it in sources for number, line in enumerate(it.code, 1)]
+    return [f"{place}: {found[0]}" for place, line in lines for found in [re.search(r"\bunsafe\b|\bextern\b", line)] if found]
+
+
+def long_lines(tree: Tree, sources: Sequence[Source]) -> List[str]:
+    """Lines of clauses and definitions that are too long to read; a line of imports may be long."""
+    lines = [(f"{it.path}:{at}", it.lines[at - 1]) for it in sources for at in sorted(it.clause_lines)]
+    for path in [it for it in tree.files if re.fullmatch(r"crates/\w+/specs/.*\.antt", it)]:
+        lines += [(f"{path}:{at}", line) for at, line in enumerate(tree.text(path).split("\n"), 1) if not line.startswith("use ")]
+    return [f"{place} has {len(line)} columns" for place, line in lines if len(line) > MOST_COLUMNS]

@@ -1,6 +1,33 @@
-"""Large records, each as the pieces of its text."""
+"""What is measured: plans as JSON, and large records, each as the pieces of its text."""
 
-from typing import Callable, Dict, Iterator
+import json
+from typing import Any, Callable, Dict, Iterator, List
+
+Node = Dict[str, Any]
+"""A node as JSON has it."""
+
+
+def test(tag: str, value: str, name: str = "n", **members: Any) -> Node:
+    return dict(type="test", segment=[tag, value], name=name, **members)
+
+
+def container(tag: str, value: str, children: List[Node], **members: Any) -> Node:
+    return dict(type="container", segment=[tag, value], name=value, children=children, **members)
+
+
+def chain(levels: int, children: List[Node], **members: Any) -> List[Node]:
+    """One container below the other, and these children below the last."""
+    for _ in range(levels):
+        children = [container("s", "x", children, **members)]
+    return children
+
+
+def write_plan(path: str, members: Callable[[], Node]) -> None:
+    """Writes a plan whose root has these members."""
+    root = dict(type="container", segment=["engine", "bench"], name="bench", **members())
+    with open(path, "w", encoding="utf-8") as file:
+        json.dump(dict(version=1, root=root), file, separators=(",", ":"))
+
 
 EVENTS = 640_000
 TESTS = 2_000
@@ -54,6 +81,6 @@ RECORDS: Dict[str, Callable[[], Iterator[str]]] = {
 }
 
 
-def write(path: str, name: str) -> None:
+def write_record(path: str, name: str) -> None:
     with open(path, "w", encoding="utf-8") as file:
         file.writelines(RECORDS[name]())
