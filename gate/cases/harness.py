@@ -130,30 +130,21 @@ class ThreadCount:
         return self.case.name
 
     def run(self, program: str) -> Optional[str]:
-        watcher = Watcher()
+        seen = [0]
+
+        def count(process: subprocess.Popen) -> None:
+            with contextlib.suppress(FileNotFoundError, ProcessLookupError):
+                while process.returncode is None:
+                    seen.append(len(os.listdir(f"/proc/{process.pid}/task")))
+                    time.sleep(0.001)
+
         for _ in range(MOST_RUNS):
-            fault = self.case.run(program, watcher.look)
-            if fault is not None or watcher.most > self.threads:
-                return fault or f"{watcher.most} threads, wanted {self.threads}"
-            if watcher.most == self.threads:
-                return None
-        return f"{watcher.most} threads, wanted {self.threads}"
-
-
-class Watcher:
-    """Looks how many threads a process has, until it ends."""
-
-    def __init__(self):
-        self.most = 0
-
-    def look(self, process: subprocess.Popen) -> None:
-        threading.Thread(target=self.count, args=(process,)).start()
-
-    def count(self, process: subprocess.Popen) -> None:
-        with contextlib.suppress(FileNotFoundError, ProcessLookupError):
-            while process.returncode is None:
-                self.most = max(self.most, len(os.listdir(f"/proc/{process.pid}/task")))
-                time.sleep(0.001)
+            fault = self.case.run(program, lambda process: threading.Thread(target=count, args=(process,)).start())
+            if fault is not None:
+                return fault
+            if max(seen) >= self.threads:
+                break
+        return None if max(seen) == self.threads else f"{max(seen)} threads, wanted {self.threads}"
 
 
 def start(case: Case, program: str, look: Callable = lambda _: None) -> Ran:
