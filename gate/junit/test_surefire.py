@@ -6,9 +6,8 @@ import re
 import shutil
 import tempfile
 import unittest
-from collections import Counter
-from dataclasses import dataclass
 from importlib.machinery import SourceFileLoader
+from operator import itemgetter
 from pathlib import Path
 
 import fixtures
@@ -22,25 +21,14 @@ PLUGIN = "org.apache.maven.plugins:maven-surefire-plugin"
 CLASSES = "ABCDEF"
 
 
-@dataclass(frozen=True)
-class Setting:
-    """A setting of Surefire, how often its goal runs, and the names of the records that have to be there but for their digits."""
-
-    name: str
-    forks: int
-    is_reused: str
-    runs: int
-    path: str
-    records: Counter
-
-
 DOCUMENTED = "run-%p-%n.record"
 SETTINGS = [
-    Setting("two processes that are used again", 2, "true", 1, DOCUMENTED, Counter({"run-#-#.record": 2})),
-    Setting("a process for each class", 1, "false", 1, DOCUMENTED, Counter({"run-#-#.record": len(CLASSES)})),
-    Setting("two executions in Maven's process", 0, "true", 2, DOCUMENTED, Counter({"run-#-#.record": 2})),
-    Setting("two executions in Maven's process at one path", 0, "true", 2, "run.record", Counter(["run.record", "run.#.record"])),
+    ("two processes that are used again", 2, "true", 1, DOCUMENTED, ["run-#-#.record"] * 2),
+    ("a process for each class", 1, "false", 1, DOCUMENTED, ["run-#-#.record"] * len(CLASSES)),
+    ("two executions in Maven's process", 0, "true", 2, DOCUMENTED, ["run-#-#.record"] * 2),
+    ("two executions in Maven's process at one path", 0, "true", 2, "run.record", ["run.#.record", "run.record"]),
 ]
+"""A setting's forks and whether they are used again, how often its goal runs, and the records that have to be there but for their digits."""
 
 
 def of_build(name):
@@ -89,10 +77,11 @@ class OfSurefire(unittest.TestCase):
         # (Maven writes beside what it reads)
         shutil.copytree(REPOSITORY, f"{cls.top}/repository", copy_function=os.symlink)
 
-    @parameterized(SETTINGS)
+    @parameterized(SETTINGS, name=itemgetter(0))
     def test_build(self, setting):
+        name, forks, is_reused, runs, path, names = setting
         if fixtures.IS_QUICK and setting is not SETTINGS[0]:
-            self.skipTest(f"{fixtures.NOT_QUICK}: {setting.name}")
+            self.skipTest(f"{fixtures.NOT_QUICK}: {name}")
         surefire = version_of("org/apache/maven/plugins/maven-surefire-plugin")
         versions = {
             "jupiter": version_of("org/junit/jupiter/junit-jupiter-engine"),
@@ -100,20 +89,20 @@ class OfSurefire(unittest.TestCase):
             "surefire": surefire,
         }
         lines = {it: lines_of_document(it) for it in ("repositories", "dependency", "systemPropertyVariables")}
-        text = of_build("pom.xml").format(forks=setting.forks, is_reused=setting.is_reused, **lines, **versions)
-        fixtures.write(f"{self.top}/pom.xml", text.replace("/usr/share/testkit/maven", f"{self.top}/maven").replace(DOCUMENTED, setting.path))
+        text = of_build("pom.xml").format(forks=forks, is_reused=is_reused, **lines, **versions)
+        fixtures.write(f"{self.top}/pom.xml", text.replace("/usr/share/testkit/maven", f"{self.top}/maven").replace(DOCUMENTED, path))
         for record in glob.glob(f"{self.top}/target/*.record"):
             os.remove(record)
         words = ["mvn", "-B", "-o", f"-Dmaven.repo.local={self.top}/repository", "-Daether.offline.protocols=file"]
-        ran = fixtures.run([*words, *(f"{PLUGIN}:{surefire}:test@{run}" for run in range(setting.runs))], seconds=java.SECONDS, cwd=self.top)
+        ran = fixtures.run([*words, *(f"{PLUGIN}:{surefire}:test@{run}" for run in range(runs))], seconds=java.SECONDS, cwd=self.top)
         said = ran.output.decode(errors="replace")
         self.assertEqual(ran.status, 0, said)
-        self.assertEqual(said.count(f"Tests run: {2 * len(CLASSES)}, Failures: 0, Errors: {len(CLASSES)}"), setting.runs, said)
+        self.assertEqual(said.count(f"Tests run: {2 * len(CLASSES)}, Failures: 0, Errors: {len(CLASSES)}"), runs, said)
         records = glob.glob(f"{self.top}/target/*.record")
-        self.assertEqual(Counter(re.sub("[0-9]+", "#", os.path.basename(it)) for it in records), setting.records)
-        endings = Counter(ending for record in records for ending in self.endings_of(record))
-        wanted = Counter({"finish|ok": len(CLASSES), **{f"finish|fail|boom {name}": 1 for name in CLASSES}})
-        self.assertEqual(endings, Counter({ending: setting.runs * number for ending, number in wanted.items()}))
+        self.assertEqual(sorted(re.sub("[0-9]+", "#", os.path.basename(it)) for it in records), names)
+        endings = sorted(ending for record in records for ending in self.endings_of(record))
+        wanted = [ending for it in CLASSES for ending in ("finish|ok", f"finish|fail|boom {it}")]
+        self.assertEqual(endings, sorted(runs * wanted))
 
     def endings_of(self, record):
         """How each test of a record ended, which has to have started before; its class has a lock."""

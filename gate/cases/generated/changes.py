@@ -4,7 +4,7 @@ import re
 from typing import List, Sequence, Tuple
 
 import form
-from generated import locks
+from generated import overlaps
 from generated.conditions import condition_text
 from generated.numbers import Cases, Numbers, modelled, series
 from generated.plans import plan, plan_text
@@ -47,7 +47,7 @@ match in-order CONDITION CONDITION
 
 
 def changed_record(numbers: Numbers) -> Start:
-    text = numbers.one_of([TWO_TESTS.encode(), EVERY_KIND.encode(), record_text(numbers, 12), locks.text_of(numbers)])
+    text = numbers.one_of([TWO_TESTS.encode(), EVERY_KIND.encode(), record_text(numbers, 12), overlaps.text_of(numbers)])
     return question(numbers), change(numbers, text)
 
 

@@ -3,7 +3,7 @@
 from typing import Callable, List, Sequence, Tuple
 
 import form
-from generated import exclusives, lifecycles, locks
+from generated import lifecycles, overlaps
 from generated.conditions import ATOMS, condition_text
 from generated.numbers import Cases, Numbers, met_series, modelled, parts_of
 from generated.questions import conditions_in_turn, conditions_of_events, events_of, fitting, selection
@@ -134,7 +134,7 @@ def cases() -> Cases:
         *matches("exactly", 59, 300, 9, of_events, [*shown, "wrong-count", "nearest", some[1]]),
         *matches("loosely", 60, 300, 60, of_some, [*shown, *some]),
         *explained("lifecycle", 61, 700, broken, SENTENCES),
-        *explained("exclusive", 62, 300, lambda numbers: exclusives.asked(numbers, "explain", "exclusive"), OVERLAPS),
-        *explained("locks", 68, 300, lambda numbers: locks.asked(numbers, "explain", "locks"), LOCKED),
+        *explained("exclusive", 62, 300, lambda numbers: overlaps.exclusive(numbers, "explain", "exclusive"), OVERLAPS),
+        *explained("locks", 68, 300, lambda numbers: overlaps.locks(numbers, "explain", "locks"), LOCKED),
         *of_lists(),
     ]

@@ -3,7 +3,7 @@
 A condition is a tuple: its word, and after it its text, its two texts, its pairs or its members.
 """
 
-from typing import Callable, List, Optional, Tuple
+from typing import Callable, Dict, List, Tuple
 
 import form
 from model.records import STATUSES, Descriptor, Event
@@ -135,42 +135,32 @@ class Reader:
 
 
 def holds(condition: Condition, event: Event, descriptor: Descriptor) -> bool:
-    word = condition[0]
-    argument = condition[1] if len(condition) > 1 else None
-    if word == "all":
-        return all(holds(member, event, descriptor) for member in argument)
-    if word == "any":
-        return any(holds(member, event, descriptor) for member in argument)
-    if word == "not":
-        return not holds(argument, event, descriptor)
-    if word == "test":
-        return descriptor.is_test()
-    if word == "container":
-        return descriptor.is_container()
-    if word == "engine":
-        return len(descriptor.id) == 1 and descriptor.id[0][0] == "engine"
-    if word == "id":
-        return argument in write_id(descriptor.id)
-    if word == "segment":
-        return argument in descriptor.id
-    if word == "name":
-        return descriptor.name == argument
-    if word == "kind":
-        return event.kind == argument
-    if word == "skipped":
-        return event.kind == "skip" and event.reason == argument
-    if word == "started":
-        return event.kind == "start"
-    if word == "message":
-        return event.kind == "finish" and event.message is not None and argument in event.message
-    if word == "file":
-        return event.kind == "file" and event.path == argument
-    if word == "entry":
-        return event.kind == "report" and set(argument) == set(event.pairs)
-    return has_ended(event, word, argument)
+    word, *argument = condition
+    return WORDS[word](event, descriptor, *argument)
 
 
-def has_ended(event: Event, word: str, message: Optional[str]) -> bool:
-    """`succeeded`, `failed` or `aborted`: with this message, where one is named."""
-    is_end = event.kind == "finish" and STATUSES[event.status] == word
-    return is_end and (message is None or event.message == message)
+def is_end(status: str) -> Callable[..., bool]:
+    """Whether an event is a finish with this status, and with this message, where one is named."""
+    is_one = lambda event: event.kind == "finish" and STATUSES[event.status] == status
+    return lambda event, _, *message: is_one(event) and (not message or event.message == message[0])
+
+
+WORDS: Dict[str, Callable[..., bool]] = {
+    "all": lambda event, descriptor, members: all(holds(member, event, descriptor) for member in members),
+    "any": lambda event, descriptor, members: any(holds(member, event, descriptor) for member in members),
+    "not": lambda event, descriptor, member: not holds(member, event, descriptor),
+    "test": lambda _, descriptor: descriptor.is_test(),
+    "container": lambda _, descriptor: descriptor.is_container(),
+    "engine": lambda _, descriptor: len(descriptor.id) == 1 and descriptor.id[0][0] == "engine",
+    "id": lambda _, descriptor, text: text in write_id(descriptor.id),
+    "segment": lambda _, descriptor, segment: segment in descriptor.id,
+    "name": lambda _, descriptor, text: descriptor.name == text,
+    "kind": lambda event, _, kind: event.kind == kind,
+    "started": lambda event, _: event.kind == "start",
+    "skipped": lambda event, _, text: event.kind == "skip" and event.reason == text,
+    "message": lambda event, _, text: event.kind == "finish" and event.message is not None and text in event.message,
+    "file": lambda event, _, text: event.kind == "file" and event.path == text,
+    "entry": lambda event, _, pairs: event.kind == "report" and set(pairs) == set(event.pairs),
+    **{status: is_end(status) for status in ("succeeded", "failed", "aborted")},
+}
+"""Whether an event, whose key has this descriptor, meets a condition, by its word and by what stands after it."""
