@@ -111,19 +111,13 @@ class Record:
         self.events: List[Event] = []
         for number, text in enumerate(texts):
             self._read(text.decode(), number * NUMBERS)
-        # (a record whose stamps are no times stays in its order)
-        ordered = sorted(self.events, key=lambda it: it.stamp)
-        if len(texts) > 1 and all(list(group) == sorted(group, key=lambda it: it.stamp) for group in self._by_record()):
-            self.events = ordered
+        # (where the stamps of a record are no times, all stay in their order)
+        stamps = [[it.stamp for it in self.events if it.key // NUMBERS == number] for number in range(len(texts))]
+        if all(it == sorted(it) for it in stamps):
+            self.events.sort(key=lambda it: it.stamp)
         self.executions = list(self._executions())
         self.has_times = self._has_times()
         self.stamps = [event.stamp if self.has_times else position for position, event in enumerate(self.events)]
-
-    def _by_record(self) -> List[List[Event]]:
-        found: Dict[int, List[Event]] = defaultdict(list)
-        for event in self.events:
-            found[event.key // NUMBERS].append(event)
-        return list(found.values())
 
     def _read(self, text: str, first: int) -> None:
         """Reads a text, whose keys and workers begin at this number."""

@@ -3,7 +3,7 @@
 import importlib
 import pkgutil
 import re
-from typing import List, Tuple
+from typing import Set, Tuple
 
 import tables
 from harness import Case, Check
@@ -21,31 +21,13 @@ A unit fails only where memory is refused: `gate/faults` shows its line. No inpu
 """
 
 
-def pattern(line: str) -> "re.Pattern[bytes]":
-    text = re.escape(line).replace("N", "[0-9]+", 2) if "PATH" not in line and "JSON" not in line else re.escape(line)
-    return re.compile(b"testkit: " + text.replace("PATH", "(?:[^\n|\\\\]|\\\\[\\\\pn])*").encode() + b"\n")
+def wanted() -> Set[Tuple[str, int]]:
+    """The lines that the cases of the other modules want, with N for each number and PATH for each path, and their statuses."""
+    modules = [importlib.import_module(f"tables.{it.name}") for it in pkgutil.iter_modules(tables.__path__) if it.name != "fault_lines"]
+    faults = [case for module in modules for case in getattr(module, "CASES", []) if isinstance(case, Case) and case.error]
+    lines = [(re.sub(r"(?<=plan member )([^\n|\\]|\\[\\pn])*(?= is bad\n)", "PATH", it.error.decode()), it.status) for it in faults]
+    return {(re.sub("(?<= )[0-9]+", "N", line).replace("testkit: ", "", 1)[:-1], status) for line, status in lines}
 
 
-def cases_of_faults() -> List[Case]:
-    """The cases of the other modules that want a line of a fault."""
-    names = [f"tables.{it.name}" for it in pkgutil.iter_modules(tables.__path__)]
-    cases = [case for name in names if name != __name__ for case in getattr(importlib.import_module(name), "CASES", [])]
-    return [case for case in cases if isinstance(case, Case) and case.error]
-
-
-def wanted_by(line: str, status: int) -> bool:
-    return any(pattern(line).fullmatch(case.error) and case.status == status for case in cases_of_faults())
-
-
-def unknown() -> List[Tuple[str, bytes, int]]:
-    """The cases that want a line, or a status with it, which the documents don't have."""
-    return [
-        (case.name, case.error, case.status)
-        for case in cases_of_faults()
-        if not any(pattern(line).fullmatch(case.error) and case.status == status for line, status in LINES)
-    ]
-
-
-CASES = [Check(f"fault lines/{line}", wanted_by(line, status), True) for line, status in LINES] + [
-    Check("fault lines/no other line", unknown(), [])
-]
+CASES = [Check(f"fault lines/{line}", (line, status) in wanted(), True) for line, status in LINES]
+CASES.append(Check("fault lines/no other line", sorted(wanted() - set(LINES)), []))
