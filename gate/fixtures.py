@@ -13,7 +13,7 @@ import tempfile
 import unittest
 from dataclasses import dataclass
 from pathlib import Path
-from typing import Callable, Iterable, Iterator, Sequence, Union
+from typing import Callable, Iterable, Iterator, Optional, Sequence, Tuple, Union
 
 TOP = os.path.dirname(os.path.dirname(os.path.realpath(__file__)))
 
@@ -35,6 +35,10 @@ NOT_QUICK = "left to the full gate"
 IS_QUICK = "TESTKIT_QUICK" in os.environ
 SHARED = [int(it) for it in os.environ.get("TESTKIT_PROCESSORS", "").split()]
 """Both ends of the pipe that `./check quick` has for the processors, with a byte for each that is free."""
+
+
+unittest.TestCase.maxDiff = None
+"""What differs is shown whole."""
 
 
 class WithProgram(unittest.TestCase):
@@ -72,18 +76,28 @@ def needs(command: str) -> Callable:
 
 @dataclass
 class parameterized:
-    """Makes a test of each row of a table, or of what a function makes: its name is that of the method, a blank and that of the row."""
+    """Makes a test of each row of a table, or of what a function makes: its name is that of the method, a blank and that of the row.
+
+    A tuple has its name first, and the method takes its other items; another row has a name, or is one. Where `name` says it, the method
+    takes the row as it is.
+    """
 
     table: Union[Sequence, Callable[[], Sequence]]
-    name: Callable[[object], str] = lambda row: row.name
+    name: Optional[Callable[[object], str]] = None
 
     def __call__(self, method: Callable) -> "parameterized":
         self.method = method
         return self
 
+    def named(self, row: object) -> Tuple[str, Sequence]:
+        """The name of a row, and what the method takes of it."""
+        if isinstance(row, tuple) and not self.name:
+            return row[0], row[1:]
+        return self.name(row) if self.name else getattr(row, "name", row), (row,)
+
     def __set_name__(self, owner: type, name: str) -> None:
-        rows = list(self.table() if callable(self.table) else self.table)
-        tests = {f"{name} {self.name(row)}": functools.partialmethod(self.method, row) for row in rows}
+        rows = [self.named(row) for row in (self.table() if callable(self.table) else self.table)]
+        tests = {f"{name} {row_name}": functools.partialmethod(self.method, *items) for row_name, items in rows}
         assert rows, f"the table of {name} has no row"
         assert len(tests) == len(rows), f"rows of {name} have one name"
         delattr(owner, name)

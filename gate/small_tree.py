@@ -30,14 +30,11 @@ def rows_of(path: str) -> List[Row]:
 
 
 class SmallTree(unittest.TestCase):
-    maxDiff = None
-
     def faults(self, top: str) -> List[str]:
         """What the rules find wrong with a tree."""
         raise NotImplementedError
 
-    def check(self, row: Row) -> None:
-        _, fault, files = row
+    def check(self, fault: str, files: Dict[str, Optional[str]]) -> None:
         top = folder(self)
         for path, text in files.items():
             if text is not None:

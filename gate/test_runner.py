@@ -7,7 +7,6 @@ import shutil
 import subprocess
 import time
 import unittest
-from operator import itemgetter
 from pathlib import Path
 from typing import Dict, Sequence
 
@@ -45,8 +44,7 @@ def module(text: str) -> str:
         if word == "skip":
             parts[at] = f'    @unittest.skip("{rest}")\n    def test_skipped(self): pass\n'
         elif word == "rows":
-            table = list(map(int, rest.split()))
-            parts[at] = f"    @parameterized({table}, name=str)\n    def test_rows(self, row): self.assertLess(row, 9)\n"
+            parts[at] = f"    @parameterized({rest.split()})\n    def test_rows(self, row): self.assertLess(int(row), 9)\n"
     return HEAD + "".join(parts)
 
 
@@ -109,9 +107,8 @@ def copy_of(*paths: str, to: str) -> str:
 
 
 class Runner(unittest.TestCase):
-    @parameterized([row for row in ROWS if len(row) == 4], name=itemgetter(0))
-    def test_says(self, row):
-        _, counted, given, modules = row
+    @parameterized([row for row in ROWS if len(row) == 4])
+    def test_says(self, counted, given, modules):
         at = copy_of("gate/run", "gate/fixtures.py", "tools/asking.py", to=folder(self))
         write(f"{at}/gate/least", given["least"] + "\n")
         for name, text in modules.items():
@@ -135,9 +132,8 @@ class Fixtures(unittest.TestCase):
 
 
 class Check(unittest.TestCase):
-    @parameterized([row for row in ROWS if len(row) == 3], name=itemgetter(0))
-    def test_says(self, row):
-        _, counted, given = row
+    @parameterized([row for row in ROWS if len(row) == 3])
+    def test_says(self, counted, given):
         at, words = self.repository(given), given["words"].split()
         environment = {**os.environ, "PATH": f"{at}/commands:{os.environ['PATH']}"}
         ran = run([f"{at}/{words[0]}", *words[1:]], cwd="/", stderr=subprocess.STDOUT, env=environment)

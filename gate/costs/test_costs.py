@@ -20,7 +20,6 @@ import subprocess
 import sys
 import time
 from dataclasses import dataclass, fields
-from operator import itemgetter
 from pathlib import Path
 from typing import BinaryIO, Callable, Iterable, Iterator, List, Sequence, Tuple
 
@@ -446,16 +445,16 @@ COUNTED = {
 SMALL = Costs(0.4, 2_000, 200, 40, 40)
 
 
-def example(name: str, command: Sequence[str], fault: str, limit: Costs = SMALL, **how) -> Tuple[str, Row, str]:
+def example(name: str, command: Sequence[str], fault: str, limit: Costs = SMALL, **how) -> Tuple[str, str, Row, str]:
     """A command that is no program of ours, a row of it, and a part of what is wrong with its costs; empty where nothing is."""
-    return command[0], Row(name, command[1:], lambda: b"x" * 2_000_000, limit, "xx", **how), fault
+    return name, command[0], Row(name, command[1:], lambda: b"x" * 2_000_000, limit, "xx", **how), fault
 
 
-def of_python(name: str, text: str, fault: str, limit: Costs = SMALL, **how) -> Tuple[str, Row, str]:
+def of_python(name: str, text: str, fault: str, limit: Costs = SMALL, **how) -> Tuple[str, str, Row, str]:
     return example(name, [sys.executable, "-S", "-c", text], fault, limit, **how)
 
 
-def of_shell(name: str, line: str, fault: str, limit: Costs = SMALL) -> Tuple[str, Row, str]:
+def of_shell(name: str, line: str, fault: str, limit: Costs = SMALL) -> Tuple[str, str, Row, str]:
     return example(name, ["/bin/sh", "-c", f"printf xx; {line}"], fault, limit)
 
 
@@ -495,23 +494,20 @@ RUNS = [
 class OfExamples(WithCounts):
     """The counts and the limits themselves."""
 
-    @parameterized(list(COUNTED.items()), name=itemgetter(0))
-    def test_counts(self, row):
-        by, wanted = row
+    @parameterized([(by, by, wanted) for by, wanted in COUNTED.items()])
+    def test_counts(self, by, wanted):
         costs, _, _ = costs_of(Row("counts", [by], lambda: b"x", SMALL, ""), self.requests, self.library, folder(self))
         self.assertEqual((costs.requests, costs.reads, costs.writes, costs.memory), (*wanted, wanted[0]))
 
-    @parameterized(EXAMPLES, name=lambda row: row[1].name)
-    def test_limits(self, it):
-        program, row, fault = it
+    @parameterized(EXAMPLES)
+    def test_limits(self, program, row, fault):
         faults = "; ".join(faults_of(row, *costs_of(row, program, self.library, folder(self))))
         self.assertTrue(fault in faults and bool(fault) == bool(faults), faults)
         # (what is right besides is found right: the answer, where it isn't what is wrong)
         self.assertEqual("it writes" in faults, "status" in fault or "it writes" in fault, faults)
 
-    @parameterized(RUNS, name=itemgetter(0))
-    def test_runs(self, it):
-        _, runs, wanted = it
+    @parameterized(RUNS)
+    def test_runs(self, runs, wanted):
         left = iter(runs)
         row = Row("runs", [], lambda: b"", Costs(0.4, 2_000, 200, 40, 40, 1), "xx")
         faults = faults_of_runs(row, lambda: (next(left), 0, "xx"))

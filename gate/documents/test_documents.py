@@ -2,7 +2,6 @@
 
 import re
 import unittest
-from operator import itemgetter
 
 from commands import examples_of
 from documents import documents_of
@@ -20,15 +19,13 @@ EXAMPLES = [example for document in DOCUMENTS for example in examples_of(documen
 
 
 class Documents(unittest.TestCase):
-    maxDiff = None
-
-    @parameterized(lambda: rules_of(TREE, DOCUMENTS, LISTED).items(), name=itemgetter(0))
+    @parameterized(lambda: rules_of(TREE, DOCUMENTS, LISTED).items())
     def test_rules(self, rule):
-        self.assertEqual(rule[1](), [])
+        self.assertEqual(rule(), [])
 
-    @parameterized(lambda: [quote for document in DOCUMENTS for quote in quotes_of(TREE, document).items()], name=itemgetter(0))
-    def test_quotes(self, quote):
-        self.assertEqual(quote[1], "")
+    @parameterized(lambda: [quote for document in DOCUMENTS for quote in quotes_of(TREE, document).items()])
+    def test_quotes(self, fault):
+        self.assertEqual(fault, "")
 
     def test_api(self):
         """`tools/api > docs/API.md` renews the page."""
@@ -44,8 +41,6 @@ class Documents(unittest.TestCase):
 
 
 class Commands(WithProgram):
-    maxDiff = None
-
     @parameterized(EXAMPLES, name=lambda it: f"{it.place}: {it.command}")
     def test_commands(self, example):
         self.assertEqual(example.fault(TOP, PROGRAM), "")

@@ -1,7 +1,5 @@
 """Holds the checks of commands, names and quotes against small trees that are right, or wrong in one way."""
 
-from operator import itemgetter
-
 from commands import examples_of
 from documents import documents_of
 from fixtures import parameterized, write
@@ -25,6 +23,6 @@ class Rules(SmallTree):
             found += [f"{it.place}: {it.command}: {fault}" for it, fault in examples if fault]
         return found
 
-    @parameterized(rows_of(__file__), name=itemgetter(0))
-    def test_rules(self, row):
-        self.check(row)
+    @parameterized(rows_of(__file__))
+    def test_rules(self, fault, files):
+        self.check(fault, files)

@@ -7,7 +7,6 @@ those of `test_example_engine`.
 import os
 import shutil
 import unittest
-from operator import itemgetter
 from pathlib import Path
 from typing import Dict
 
@@ -39,8 +38,6 @@ def files(at: str) -> Dict[str, str]:
 
 @needs("rt")
 class NewEngine(unittest.TestCase):
-    maxDiff = None
-
     def setUp(self) -> None:
         self.at = folder(self)
         for path in (ENGINE, TESTS, "tools"):
@@ -51,9 +48,8 @@ class NewEngine(unittest.TestCase):
             os.makedirs(f"{self.at}/crates/{crate}/src")
         self.before = files(self.at)
 
-    @parameterized([row for row in ROWS if len(row) == 5], name=itemgetter(0))
-    def test_makes(self, row):
-        _, words, page, given, names = row
+    @parameterized([row for row in ROWS if len(row) == 5])
+    def test_makes(self, words, page, given, names):
         ran = run([f"{self.at}/tools/new_engine", *words])
         self.assertEqual((ran.status, ran.error), (0, b""))
         made = {path: text for path, text in files(self.at).items() if text != self.before.get(path)}
@@ -70,10 +66,9 @@ class NewEngine(unittest.TestCase):
         self.assertIn("#![tactic(auto)]\n\n#[cfg(test)]\nmod engine;\n", made.pop("crates/test_front_desk/src/lib.rt"))
         self.assertEqual(made, {})
 
-    @parameterized([row for row in ROWS if len(row) == 4], name=itemgetter(0))
-    def test_refuses(self, row):
+    @parameterized([row for row in ROWS if len(row) == 4])
+    def test_refuses(self, words, fault, status):
         """The script says why in one line, and changes nothing."""
-        _, words, fault, status = row
         ran = run([f"{self.at}/tools/new_engine", *words])
         self.assertEqual((ran.status, ran.output, ran.error.count(b"\n")), (status, b"", 1), ran.error)
         self.assertIn(fault, ran.error.decode())

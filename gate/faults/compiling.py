@@ -26,11 +26,8 @@ class WithLibrary(unittest.TestCase):
     @classmethod
     def setUpClass(cls) -> None:
         super().setUpClass()
-        cls.room = tempfile.TemporaryDirectory(prefix="counted-")
-        cls.library, cls.requests = f"{cls.room.name}/library.so", f"{cls.room.name}/requests"
+        room = tempfile.TemporaryDirectory(prefix="counted-")
+        cls.addClassCleanup(room.cleanup)
+        cls.library, cls.requests = f"{room.name}/library.so", f"{room.name}/requests"
         subprocess.run([compiler(), "-shared", "-fPIC", "-O", cls.SOURCE, "-o", cls.library], check=True)
         subprocess.run([compiler(), "-O", "-pthread", f"{HERE}/requests.c", "-o", cls.requests], check=True)
-
-    @classmethod
-    def tearDownClass(cls) -> None:
-        cls.room.cleanup()

@@ -278,10 +278,9 @@ class OfTests(WithRefusals):
 
 
 class OfRequests(WithRefusals):
-    @parameterized(REQUESTS, name=lambda row: row[0])
-    def test_first_of_its_kind(self, row):
+    @parameterized([(by, by, kind) for by, kind in REQUESTS])
+    def test_first_of_its_kind(self, by, kind):
         """The first request of its kind is refused where it is asked for, and nothing else."""
-        by, kind = row
         for asked, number, wanted in [(kind, 0, (0, False)), (kind, 1, (1, True)), (kind, 2, (0, False)), ("another", 1, (0, False))]:
             ended = run(self.library, Sweep(by, asked, [os.fsencode(self.requests), os.fsencode(by)], b"", passes), number)
             self.assertEqual(wanted, (ended.status, bool(ended.refused_of)), (asked, number))
@@ -298,7 +297,7 @@ MEMORY, OF_A_PLAN = refused_with(OUT_OF_MEMORY), refused_memory_of_a_run
 
 def example(name: str, is_passed: bool, rule: Callable, ended: Ended, first: Ended = ORDINARY, **how):
     """A sweep, its runs (the ordinary one, one in which a request is refused, and one that meets no refusal), and whether they are right."""
-    return Sweep(name, "memory", [], b"", rule, **how), [first, ended, first], is_passed
+    return name, Sweep(name, "memory", [], b"", rule, **how), [first, ended, first], is_passed
 
 
 EXAMPLES = [
@@ -319,8 +318,7 @@ EXAMPLES = [
 
 
 class OfExamples(unittest.TestCase):
-    @parameterized(EXAMPLES, name=lambda row: row[0].name)
-    def test_runs(self, row):
-        sweep, runs, is_passed = row
+    @parameterized(EXAMPLES)
+    def test_runs(self, sweep, runs, is_passed):
         # (a further round has the same runs)
         self.assertEqual(is_passed, not failures_of(lambda number: runs[number], sweep))

@@ -2,7 +2,6 @@
 
 import tempfile
 import unittest
-from operator import itemgetter
 
 import cases
 import records
@@ -69,8 +68,7 @@ CHECKS = [
 
 
 class OfChecks(unittest.TestCase):
-    @parameterized(CHECKS, name=itemgetter(0))
-    def test_check(self, row):
-        _, check, right, wrong = row
+    @parameterized(CHECKS)
+    def test_check(self, check, right, wrong):
         check(*right)
         self.assertRaises(AssertionError, check, *wrong)

@@ -38,14 +38,10 @@ class WithClasses(unittest.TestCase):
     def setUpClass(cls):
         super().setUpClass()
         cls.room = tempfile.TemporaryDirectory(prefix="junit-")
+        cls.addClassCleanup(cls.room.cleanup)
         cls.out = f"{os.path.realpath(cls.room.name)}/out"
         os.mkdir(cls.out)
         cls.classes = java.compiled(f"{cls.room.name}/classes")
-
-    @classmethod
-    def tearDownClass(cls):
-        cls.room.cleanup()
-        super().tearDownClass()
 
     def lines(self, name):
         text = cases.read(f"{self.out}/{name}")
@@ -139,7 +135,7 @@ class OfCases(WithClasses):
 class OfSamples(WithClasses, fixtures.WithProgram):
     """The sample tests, beside what JUnit's SummaryGeneratingListener counts."""
 
-    @parameterized(sorted(LIFECYCLES), name=str)
+    @parameterized(sorted(LIFECYCLES))
     def test_run(self, name):
         path = f"{self.out}/{name}.record"
         if name == "halt":

@@ -7,7 +7,6 @@ message, as JUnit writes it. open-test-reporting.record was worked out from it b
 import os
 import resource
 import unittest
-from operator import itemgetter
 from pathlib import Path
 
 import cases
@@ -68,15 +67,12 @@ def convert(data, **how):
 
 
 class OfReports(unittest.TestCase):
-    maxDiff = None
-
     def test_report_of_junit(self):
         ran = convert(Path(f"{cases.HERE}/open-test-reporting.xml").read_bytes())
         self.assertEqual((ran.status, ran.output.decode(), ran.error), (0, cases.read(f"{cases.HERE}/open-test-reporting.record"), b""))
 
-    @parameterized(ROWS, name=itemgetter(0))
-    def test_reports(self, row):
-        _, report, status, said = row
+    @parameterized(ROWS)
+    def test_reports(self, report, status, said):
         ran = convert(report)
         if status:
             self.assertEqual((ran.status, ran.output, ran.error.count(b"\n")), (status, b"", 1), ran)

@@ -7,7 +7,6 @@ import shutil
 import tempfile
 import unittest
 from importlib.machinery import SourceFileLoader
-from operator import itemgetter
 from pathlib import Path
 
 import fixtures
@@ -77,11 +76,10 @@ class OfSurefire(unittest.TestCase):
         # (Maven writes beside what it reads)
         shutil.copytree(REPOSITORY, f"{cls.top}/repository", copy_function=os.symlink)
 
-    @parameterized(SETTINGS, name=itemgetter(0))
-    def test_build(self, setting):
-        name, forks, is_reused, runs, path, names = setting
-        if fixtures.IS_QUICK and setting is not SETTINGS[0]:
-            self.skipTest(f"{fixtures.NOT_QUICK}: {name}")
+    @parameterized(SETTINGS)
+    def test_build(self, forks, is_reused, runs, path, names):
+        if fixtures.IS_QUICK and not (forks and is_reused == "true"):
+            self.skipTest(f"{fixtures.NOT_QUICK}: {forks} forks, {runs} runs")
         surefire = version_of("org/apache/maven/plugins/maven-surefire-plugin")
         versions = {
             "jupiter": version_of("org/junit/jupiter/junit-jupiter-engine"),

@@ -8,7 +8,6 @@ import shutil
 import sys
 import time
 import unittest
-from operator import itemgetter
 from pathlib import Path
 
 from fixtures import TOP, Ran, folder, needs, parameterized, run, write
@@ -192,9 +191,9 @@ class Launcher(unittest.TestCase):
     def test_proved_program(self) -> None:
         self.assert_answered("3", *WORDS, input=BINARY, status=3)
 
-    @parameterized(NEWER, name=itemgetter(0))
-    def test_changed_sources(self, row) -> None:
-        row[1](self.it)
+    @parameterized(NEWER)
+    def test_changed_sources(self, change) -> None:
+        change(self.it)
         self.assert_tried(self.it.call("ask", "stats"))
 
     def test_other_changes(self) -> None:
@@ -226,15 +225,14 @@ class Launcher(unittest.TestCase):
         os.close(terminal)
         os.close(end)
 
-    @parameterized(["<&-", "<.", ">&-", ">/dev/full"], name=str)
+    @parameterized(["<&-", "<.", ">&-", ">/dev/full"])
     def test_streams(self, streams) -> None:
         self.it.unprove()
         self.assert_failed(self.it.call("run", streams=streams), f"standard {'in' if '<' in streams else 'out'}put can't be ")
 
-    @parameterized(NO_ANSWER, name=itemgetter(0))
-    def test_no_answer(self, row) -> None:
+    @parameterized([(ended, ended, status) for ended, status in NO_ANSWER])
+    def test_no_answer(self, ended, status) -> None:
         """A status of `rt try` itself isn't taken for one of the program, nor is what it shows of one that didn't end."""
-        ended, status = row
         self.it.unprove()
         self.it.answers("5\n", "testkit: bad word 0\n", status, f"{ended}\n")
         self.assert_failed(self.it.call("replay"), f"no answer by rt try ({ended.splitlines()[-1]}")
@@ -259,10 +257,9 @@ class Launcher(unittest.TestCase):
         self.it.write("crates/testkit/out/testkit", PROGRAM, 0o755)
         self.assert_answered("3", status=3)
 
-    @parameterized(OTHER_SUM, name=itemgetter(0))
-    def test_not_kept(self, row) -> None:
+    @parameterized(OTHER_SUM)
+    def test_not_kept(self, why, change) -> None:
         """Without `rt` there is no answer, for this reason; with it, `rt try` answers, and says so."""
-        _, why, change = row
         self.it.keep()
         change(self.it)
         self.assert_failed(self.it.call("run"), why, lines=1)

@@ -7,7 +7,6 @@ library's loader opens the library before it begins, and the library may look ho
 import re
 import shutil
 import unittest
-from operator import itemgetter
 from pathlib import Path
 from typing import List
 
@@ -50,9 +49,8 @@ CALLS = [
 
 @unittest.skipUnless(CAN_TRACE, "no strace")
 class Calls(WithProgram):
-    @parameterized(CALLS, name=itemgetter(0))
-    def test_program(self, row) -> None:
-        words, name, status, output = row
+    @parameterized([(words, words, *more) for words, *more in CALLS])
+    def test_program(self, words, name, status, output) -> None:
         trace = f"{folder(self)}/trace"
         ran = run([*STRACE, trace, PROGRAM, *words.split()], Path(f"{TOP}/{name}").read_bytes())
         self.assertEqual((ran.status, ran.output[: len(output)]), (status, output), ran)
@@ -84,6 +82,6 @@ class Traces(unittest.TestCase):
         self.assertEqual(others(STARTED + RIGHT), [])
         self.assertEqual(others(RIGHT), ["nothing was traced"])
 
-    @parameterized(WRONG, name=str)
+    @parameterized(WRONG)
     def test_wrong(self, line: str) -> None:
         self.assertEqual(others(STARTED + RIGHT + line), [line[2:-1]])

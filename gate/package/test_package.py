@@ -11,7 +11,6 @@ import tarfile
 import tempfile
 import unittest
 import zipfile
-from operator import itemgetter
 from pathlib import Path
 from typing import Dict
 
@@ -122,8 +121,6 @@ def without_jdk(test):
 @needs("dpkg-deb")
 class Made(unittest.TestCase):
     """Both packages of a repository, unpacked; `packed` are its files that are packed, `programs` those that can be run."""
-
-    maxDiff = None
 
     @classmethod
     def setUpClass(cls):
@@ -312,11 +309,8 @@ class Bytes(unittest.TestCase):
 
 @needs("git")
 class Refusals(unittest.TestCase):
-    maxDiff = None
-
-    @parameterized(REFUSED, name=itemgetter(0))
-    def test_refused(self, row):
-        _, status, line, change = row
+    @parameterized(REFUSED)
+    def test_refused(self, status, line, change):
         it = Repository(folder(self))
         change(it)
         ran = it.package(PATH=without_jdk(self))
@@ -369,7 +363,7 @@ class ManPage(unittest.TestCase):
 
 
 class Usage(WithProgram):
-    @parameterized(re.findall(r"^  testkit ask (\w+)", USAGE, re.MULTILINE), name=str)
+    @parameterized(re.findall(r"^  testkit ask (\w+)", USAGE, re.MULTILINE))
     def test_question(self, name):
         """The program knows each question of the page."""
         self.assertNotIn(b"unknown question", ask(["ask", name], b"testkit-record|2\n").error)

@@ -1,7 +1,5 @@
 """Holds each rule for sources against small trees that are right, or wrong in one way; the repository itself shows what else is right."""
 
-from operator import itemgetter
-
 from fixtures import parameterized
 from rules import Limits, rules_of
 from small_tree import SmallTree, rows_of
@@ -14,6 +12,6 @@ class Rules(SmallTree):
     def faults(self, top):
         return [fault for rule in rules_of(Tree(top), LIMITS).values() for fault in rule()]
 
-    @parameterized(rows_of(__file__), name=itemgetter(0))
-    def test_rules(self, row):
-        self.check(row)
+    @parameterized(rows_of(__file__))
+    def test_rules(self, fault, files):
+        self.check(fault, files)

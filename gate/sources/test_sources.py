@@ -1,7 +1,6 @@
 """Checks the repository's sources by the rules of `rules.py`."""
 
 import unittest
-from operator import itemgetter
 
 from fixtures import TOP, parameterized
 from rules import Limits, rules_of
@@ -23,8 +22,6 @@ LIMITS = Limits(
 
 
 class Sources(unittest.TestCase):
-    maxDiff = None
-
-    @parameterized(lambda: rules_of(Tree(TOP), LIMITS).items(), name=itemgetter(0))
+    @parameterized(lambda: rules_of(Tree(TOP), LIMITS).items())
     def test_rules(self, rule):
-        self.assertEqual(rule[1](), [])
+        self.assertEqual(rule(), [])

@@ -6,7 +6,6 @@ import html
 import json
 import os
 import re
-from operator import itemgetter
 from pathlib import Path
 
 from fixtures import PROGRAM, TOP, WithProgram, folder, needs, parameterized, run, write
@@ -105,7 +104,7 @@ class Page(WithProgram):
         ran = self.drawn(MIXED[:-1])
         self.assertEqual((ran.status, ran.output, ran.error), (2, b"", b"testkit: line 26 is bad\n"))
 
-    @parameterized(["timeline", "trace", "from-open-test-reporting"], name=str)
+    @parameterized(["timeline", "trace", "from-open-test-reporting"])
     def test_folder(self, tool):
         """Standard input is a folder, at which Python itself would end with 1."""
         opened = os.open(TOP, os.O_RDONLY)
@@ -119,7 +118,7 @@ class Page(WithProgram):
         ran = self.drawn(MIXED, "--unit", "hours")
         self.assertEqual((ran.status, ran.output), (2, b""))
 
-    @parameterized(["echo 2 failed 112 131", "kill -9 $$"], name=str)
+    @parameterized(["echo 2 failed 112 131", "kill -9 $$"])
     def test_other_answers(self, line):
         """A program that answers otherwise than the record says, or that is killed."""
         program = f"{folder(self)}/program"
@@ -130,9 +129,8 @@ class Page(WithProgram):
     def data(self, drawn):
         return json.loads(re.search(DATA_OF_PAGE, drawn.output.decode("ascii"), re.DOTALL)[1])
 
-    @parameterized(DATA, name=itemgetter(0))
-    def test_data(self, row):
-        _, record, words, look, wanted = row
+    @parameterized(DATA)
+    def test_data(self, record, words, look, wanted):
         self.assertEqual(look(self.data(self.drawn(record, *words))), wanted)
 
     def files(self, *records):
@@ -178,9 +176,8 @@ class Page(WithProgram):
         wanted = [{**same, "ending": ending, **it} for ending, it in zip(("failed", "unfinished", "skipped"), (of_failed, *of_others))]
         self.assertEqual([it["args"] for it in found if it["pid"] == 0], wanted)
 
-    @parameterized(TRACED, name=itemgetter(0))
-    def test_slices(self, row):
-        _, record, words, wanted = row
+    @parameterized(TRACED)
+    def test_slices(self, record, words, wanted):
         names, found = self.traced(*words, record=record)
         self.assertEqual(names[0]["args"], {"name": "record"})
         self.assertEqual([(it["tid"], it["ts"], it["dur"]) for it in found], wanted)
@@ -200,8 +197,6 @@ class Page(WithProgram):
 @needs("chromium")
 class Browser(WithProgram):
     """The page of a record in which stamps are microseconds, as Chromium shows it."""
-
-    maxDiff = None
 
     @classmethod
     def setUpClass(cls):

@@ -42,4 +42,4 @@ def no_pair(name: str, words: str, text: str):
 
 refused = refusals(("exclusive/", "exclusive", 0, OVERLAPPING), ("explain/exclusive, ", "explain exclusive", 1, TWO_TESTS))
 
-CASES: List = rows(__file__, globals())
+CASES = rows(__file__, globals())

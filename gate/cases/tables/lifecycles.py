@@ -1,7 +1,5 @@
 """What `ask lifecycle` answers: each rule, the order of the rules, and what keeps them."""
 
-from typing import List
-
 from tables.building import answer, fault, no, record, rows
 from tables.texts import CUT, EMPTY, REGISTERED_TEST, TWO_TESTS
 
@@ -28,4 +26,4 @@ def broken(name: str, text: str, why: str, *third: str):
     return no(name, "ask lifecycle", events(text, *third), f"no {why}")
 
 
-CASES: List = rows(__file__, globals())
+CASES = rows(__file__, globals())

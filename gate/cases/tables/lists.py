@@ -1,7 +1,5 @@
 """What `ask list` answers: the events that a selection picks and of which each condition holds, each with its position."""
 
-from typing import List
-
 import form
 from tables.building import answer, fault, record, refusals, rows
 from tables.questions import EVERY_KIND, SELECTED, SIXTY_FIVE_STARTS
@@ -31,7 +29,7 @@ TOO_DEEP = DEEP + "test" + ")" * 33
 
 refused = refusals(("list/", "list", 0, TWO_TESTS), ("explain/list, ", "explain list", 1, TWO_TESTS))
 
-CASES: List = rows(__file__, globals()) + [
+CASES = rows(__file__, globals()) + [
     *[listed(f"{title}, {name}", name, text, *picks.get(name, ())) for title, text, picks in SELECTED for name in form.SELECTIONS],
     listed("sixty-five starts", "started", SIXTY_FIVE_STARTS, *range(65)),
     listed("a hundred events", "skipped", many_lines(100, 99), 99),

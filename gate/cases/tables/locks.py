@@ -45,4 +45,4 @@ def explained(name: str, locks: str, events: str, output: str):
 
 refused = refusals(("locks/", "locks", 0, EMPTY), ("explain/locks, ", "explain locks", 1, EMPTY))
 
-CASES: List = rows(__file__, globals())
+CASES = rows(__file__, globals())

@@ -1,7 +1,5 @@
 """`run --record`: the record of a run, known to the byte where one worker runs the plan, and read again where more do."""
 
-from typing import List
-
 import form
 from recorded import RecordedRun
 from tables.building import answer, fault, lines_of, record, rows
@@ -51,7 +49,7 @@ WITHOUT_A_LOCK = ONE_TEST_PLAN.replace('"name"', '"locks":[{"key":""}],"name"')
 
 WORKERS_OF = range(1, form.MAX_WORKERS + 1)
 
-CASES: List = rows(__file__, globals()) + [
+CASES = rows(__file__, globals()) + [
     *[RecordedRun(f"run record/demo plan, {it} workers", DEMO_PLAN.encode(), it, DEMO_REPORT.encode()) for it in WORKERS_OF],
     *[RecordedRun(f"run record/twenty units with locks, {it} workers", PLAN.encode(), it, REPORT.encode()) for it in WORKERS_OF],
     RecordedRun("run record/more workers than units", ONE_TEST_PLAN.encode(), form.MAX_WORKERS, ONE_TEST_REPORT.encode()),
