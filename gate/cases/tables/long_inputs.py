@@ -1,6 +1,6 @@
 """Lines and words that are long, command lines of many words, long replays, and as many descriptors as there may be."""
 
-from typing import Callable, List
+from typing import Callable
 
 from tables.building import HEADER, REPLAY_HEADER, answer, fault, no, stats
 
@@ -8,6 +8,8 @@ NODE = "N|T|[engine:e]|e\n"
 START = "E|1|0|0|start\n"
 ONE_START = HEADER + NODE + START
 LONG_TEXT = "x" * 1_000_000
+LOOSELY, STARTED = "ask match loosely", " started"
+TWENTY_THOUSAND = "many words/20,000 conditions"
 
 
 def lines(*parts: str) -> Callable[[], bytes]:
@@ -20,34 +22,23 @@ def event(*tail: str) -> Callable[[], bytes]:
     return lines(NODE, "E|1|0|0|", *tail)
 
 
-def many_pairs() -> bytes:
-    """A report of 10,000 pairs."""
-    return event("report", *[f"|{number:05}|v" for number in range(10_000)])()
-
-
-def loosely(*conditions: str) -> List[str]:
-    return ["ask", "match", "loosely", *conditions]
+def starts(count: int, *workers: int) -> str:
+    """The starts of workers in turn, as many of each, at the stamps 0, 1, .."""
+    return "".join(f"E|{worker}|0|{stamp}|start\n" for stamp in range(count) for worker in workers)
 
 
 def long_replay() -> bytes:
     """Two workers with 50,000 starts each; in turn each emits one and one is taken."""
-    entries = "".join(f"E|{worker}|0|{stamp}|start\n" for stamp in range(50_000) for worker in (1, 2))
-    return (REPLAY_HEADER + "W|2\n" + NODE + entries + "S" + "|2|t|1|t" * 50_000 + "\n").encode()
+    return (REPLAY_HEADER + "W|2\n" + NODE + starts(50_000, 1, 2) + "S" + "|2|t|1|t" * 50_000 + "\n").encode()
 
 
 def long_replay_record() -> bytes:
-    entries = "".join(f"E|{worker}|0|{stamp}|start\n" for stamp in range(50_000) for worker in (2, 1))
-    return (HEADER + NODE + entries).encode()
+    return (HEADER + NODE + starts(50_000, 2, 1)).encode()
 
 
 def waiting_replay() -> bytes:
     """One worker emits 100,000 starts before the first is taken."""
-    entries = "".join(f"E|1|0|{stamp}|start\n" for stamp in range(100_000))
-    return (REPLAY_HEADER + "W|1\n" + NODE + entries + "S" + "|1" * 100_001 + "|t" * 100_001 + "\n").encode()
-
-
-def waiting_replay_record() -> bytes:
-    return (HEADER + NODE + "".join(f"E|1|0|{stamp}|start\n" for stamp in range(100_000))).encode()
+    return (REPLAY_HEADER + "W|1\n" + NODE + starts(100_000, 1) + "S" + "|1" * 100_001 + "|t" * 100_001 + "\n").encode()
 
 
 def roots(count: int) -> bytes:
@@ -86,38 +77,26 @@ CASES = [
     fault("long line/keys of a report that fall", "ask stats", event("report|", LONG_TEXT, "y|v|", LONG_TEXT, "|v"), "line 3 is unlawful"),
     fault("long line/number", "ask stats", lines(NODE, "E|", "1" * 1_000_000, "|0|0|start"), "line 3 is bad"),
     fault("long line/id", "ask stats", lines("N|T|[engine:", LONG_TEXT, "]|e"), "line 2 is bad"),
-    answer("long line/10,000 pairs", "ask count reporting", many_pairs, "1\n"),
+    answer("long line/10,000 pairs", "ask count reporting", event("report", *[f"|{number:05}|v" for number in range(10_000)]), "1\n"),
     answer(
         "long word/name",
-        ["ask", "match", "exactly", "name(" + "x" * 100_000 + ")"],
-        lines("N|T|[engine:e]|", "x" * 100_000, "\n", START.rstrip()),
-        "yes\n",
+        *(f"ask match exactly name({'x' * 100_000})", lines("N|T|[engine:e]|", "x" * 100_000, "\n", START.rstrip()), "yes\n"),
     ),
-    answer("many words/10,000 conditions", loosely(*["started"] * 10_000), ONE_START, "yes\n"),
-    no("many words/10,001 conditions", loosely(*["started"] * 10_000, "failed"), ONE_START, "no 10000\n"),
-    answer("many words/20,000 conditions", loosely(*["started"] * 20_000), ONE_START, "yes\n"),
-    no("many words/20,000 conditions, the last fails", loosely(*["started"] * 19_999, "failed"), ONE_START, "no 19999\n"),
+    answer("many words/10,000 conditions", LOOSELY + STARTED * 10_000, ONE_START, "yes\n"),
+    no("many words/10,001 conditions", LOOSELY + STARTED * 10_000 + " failed", ONE_START, "no 10000\n"),
+    answer("many words/20,000 conditions", LOOSELY + STARTED * 20_000, ONE_START, "yes\n"),
+    no("many words/20,000 conditions, the last fails", LOOSELY + STARTED * 19_999 + " failed", ONE_START, "no 19999\n"),
     *[
-        no(
-            f"many words/20,000 conditions, number {number} fails",
-            loosely(*["started"] * number, "failed", *["started"] * (19_999 - number)),
-            ONE_START,
-            f"no {number}\n",
-        )
-        for number in (16_379, 16_380, 16_381, 16_382, 16_383, 16_384, 16_385)
+        no(f"{TWENTY_THOUSAND}, number {it} fails", LOOSELY + STARTED * it + " failed" + STARTED * (19_999 - it), ONE_START, f"no {it}\n")
+        for it in (16_379, 16_380, 16_381, 16_382, 16_383, 16_384, 16_385)
     ],
-    fault(
-        "many words/20,000 conditions, the last is bad",
-        loosely(*["started"] * 19_999, "starte"),
-        ONE_START,
-        "condition 20000 is bad at 6",
-    ),
-    fault("many words/20,000 expectations", ["ask", "stats", "started=1"] + ["failed=0"] * 19_999, ONE_START, "bad word 2"),
-    fault("many words/20,000 words after a count", ["ask", "count", "all"] + ["x"] * 20_000, ONE_START, "bad word 1"),
-    fault("many words/20,000 words of a run", ["run"] + ["--workers"] * 20_000, "", "bad command line"),
-    fault("many words/20,000 words of a replay", ["replay"] + ["x"] * 20_000, "", "bad command line"),
+    fault(f"{TWENTY_THOUSAND}, the last is bad", LOOSELY + STARTED * 19_999 + " starte", ONE_START, "condition 20000 is bad at 6"),
+    fault("many words/20,000 expectations", "ask stats started=1" + " failed=0" * 19_999, ONE_START, "bad word 2"),
+    fault("many words/20,000 words after a count", "ask count all" + " x" * 20_000, ONE_START, "bad word 1"),
+    fault("many words/20,000 words of a run", "run" + " --workers" * 20_000, "", "bad command line"),
+    fault("many words/20,000 words of a replay", "replay" + " x" * 20_000, "", "bad command line"),
     answer("100,000 entries/in turn", "replay", long_replay, long_replay_record),
-    answer("100,000 entries/all waiting", "replay", waiting_replay, waiting_replay_record),
+    answer("100,000 entries/all waiting", "replay", waiting_replay, lambda: (HEADER + NODE + starts(100_000, 1)).encode()),
     fault("100,000 entries/after the end", "replay", lambda: waiting_replay()[:-1] + b"|1\n", "step 200002 comes after the end mark"),
     answer("65,536 descriptors/static", "ask stats", lambda: roots(65_536), stats()),
     fault("65,537 descriptors/static", "ask stats", lambda: roots(65_537), "line 65538 is bad"),

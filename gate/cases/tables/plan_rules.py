@@ -1,15 +1,7 @@
 """Plans whose members are good and whose nodes are refused."""
 
-from typing import List, Tuple
-
-from harness import Case
 from tables.building import answer, fault, rows, stats
 from tables.plan_texts import CHILD, ONE_START, plan_of, refused, rooted
-
-
-def each_refused(line: str, *rows: Tuple[str, str]) -> List[Case]:
-    """The plans of these rows, each with the name of its case, are refused with this line."""
-    return [refused(name, plan, line) for name, plan in rows]
 
 
 def locks(keys) -> str:
@@ -24,40 +16,9 @@ def rule_of_root(name: str, members: str, line: str):
     return rule(name, rooted(members), line)
 
 
-TWICE = [
-    *each_refused(
-        "plan table is refused",
-        ("children twice with long values", rooted(',"children":[CHILD,CHILD]').replace('"y"', f'"{"y" * 4_000}"')),
-        ("dynamic nodes twice with long tags", rooted(',"dynamic":[CHILD,CHILD]').replace('"b"', f'"{"b" * 4_000}"')),
-    ),
-    refused(
-        "empty tag before too many resources",
-        *(plan_of('{"type":"test","segment":["","x"],"name":"e"' + locks(range(16)) + "}"), "plan id is bad"),
-    ),
-]
-
 FIFTEEN = [f"k{number}" for number in range(15)]
 SIXTEENTH = CHILD[:-1] + locks(["x"]) + "}"
 """A child with another lock key."""
-
-RESOURCES = [
-    *each_refused(
-        "too many resources",
-        ("sixteen lock keys", rooted(locks(FIFTEEN + ["x"]))),
-        ("sixteen lock keys with global between", rooted(locks(FIFTEEN + ["global", "x"]))),
-        ("Global is no global", rooted(locks(FIFTEEN + ["Global"]))),
-        ("sixteen lock keys, one empty", rooted(locks(FIFTEEN + [""]))),
-        ("1,000 lock keys", rooted(locks(range(1_000)))),
-        ("too many resources before the children", rooted(locks(FIFTEEN + ["x"]) + ',"children":[3]')),
-        ("sixteenth lock key of a child", rooted(f'{locks(FIFTEEN)},"children":[{SIXTEENTH}]')),
-        ("sixteenth lock key below a skipped node", rooted(f',"skip":"off"{locks(FIFTEEN)},"children":[{SIXTEENTH}]')),
-    ),
-    answer("plan/fifteen lock keys", "run", rooted(locks(FIFTEEN)), ONE_START),
-    answer("plan/fifteen lock keys and global", "run", rooted(locks(FIFTEEN + ["global"])), ONE_START),
-    answer("plan/fifteen lock keys twice", "run", rooted(locks(FIFTEEN + FIFTEEN)), ONE_START),
-    answer("plan/empty lock key", "run", rooted(locks(FIFTEEN[:14] + [""])), ONE_START),
-    refused("twice before too many resources", rooted(f'{locks(FIFTEEN)},"children":[CHILD,{SIXTEENTH}]'), "plan table is refused"),
-]
 
 
 def chain(levels: int, innermost: str = "", member: str = "children") -> str:
@@ -74,25 +35,6 @@ def chain_report(levels: int, is_dynamic: bool = False) -> str:
     return stats(started=levels, finished=levels, succeeded=levels, dynamic=is_dynamic * (levels - 1)) + lines
 
 
-LEVELS = [
-    answer("plan/60 levels", "run --workers 3", chain(60), chain_report(60)),
-    answer("plan/60 levels of dynamic nodes", "run --workers 3", chain(60, member="dynamic"), chain_report(60, is_dynamic=True)),
-    refused("61 levels", chain(61), "plan too deep"),
-    refused("62 levels", chain(62), "plan too deep"),
-    refused("70 levels", chain(70), "plan is not JSON"),
-    refused("1,000 levels", chain(1_000), "plan is not JSON"),
-    refused("61 levels of dynamic nodes", chain(61, member="dynamic"), "plan too deep"),
-    refused("level 61 before its members", chain(60, ',"children":[3]'), "plan too deep"),
-    refused("level 61 of a dynamic node", chain(60, ',"dynamic":[CHILD]'.replace("CHILD", CHILD)), "plan too deep"),
-    refused("an earlier fault before level 61", chain(61).replace('"name":"n"', '"name":3', 1), "plan member /root/name is bad"),
-    refused(
-        "member of level 60 before level 61",
-        chain(60, ',"dynamic":3,"children":[3]'),
-        "plan member /root" + "/children/0" * 59 + "/dynamic is bad",
-    ),
-]
-
-
 def long_id(piece: str, count: int, members: str = "") -> str:
     """A plan whose root's id is `[s:]` with `piece` written `count` times before its last bracket."""
     return plan_of('{"type":"both","segment":["s","' + piece * count + '"],"name":"n"' + members + "}")
@@ -103,27 +45,46 @@ def long_id_report(escaped: str, count: int) -> str:
 
 
 LOWER = ',"children":[{"type":"test","segment":["c","y"],"name":"m"}]'
-
 LOWER_OF_DYNAMIC = LOWER.replace("children", "dynamic")
 LONG = "[s:" + "x" * 4_086 + "]"
 
 
 def two_passed(dynamic: int, registered: str) -> str:
     """The report of a root with a long id and the test `[c:y]` below it."""
-    return stats(started=2, finished=2, succeeded=2, dynamic=dynamic) + f"{LONG}\n  start\n  finish|ok\n{LONG}/[c:y]\n{registered}  start\n  finish|ok\n"
+    root, test = f"{LONG}\n  start\n  finish|ok\n", f"{LONG}/[c:y]\n{registered}  start\n  finish|ok\n"
+    return stats(started=2, finished=2, succeeded=2, dynamic=dynamic) + root + test
 
 
-LONG_IDS = [
-    answer("plan/id of 4,096 bytes", "run", long_id("x", 4_092), long_id_report("x", 4_092)),
-    answer("plan/id of 4,096 bytes with escapes", "run", long_id("/", 1_364), long_id_report("%2F", 1_364)),
-    answer("plan/id of 4,096 bytes not ASCII", "run", long_id("é", 2_046), long_id_report("é", 2_046)),
-    answer("plan/child's id of 4,096 bytes", "run", long_id("x", 4_086, LOWER), two_passed(0, "")),
-    answer(
-        "plan/dynamic node's id of 4,096 bytes",
-        *("run", long_id("x", 4_086, LOWER_OF_DYNAMIC), two_passed(1, f"  dynamic|T|{LONG}/[c:y]|m\n")),
-    ),
-    *each_refused(
-        "plan id is bad",
+REFUSED = {
+    "plan table is refused": [
+        ("children twice with long values", rooted(',"children":[CHILD,CHILD]').replace('"y"', f'"{"y" * 4_000}"')),
+        ("dynamic nodes twice with long tags", rooted(',"dynamic":[CHILD,CHILD]').replace('"b"', f'"{"b" * 4_000}"')),
+        ("twice before too many resources", rooted(f'{locks(FIFTEEN)},"children":[CHILD,{SIXTEENTH}]')),
+    ],
+    "too many resources": [
+        ("sixteen lock keys", rooted(locks(FIFTEEN + ["x"]))),
+        ("sixteen lock keys with global between", rooted(locks(FIFTEEN + ["global", "x"]))),
+        ("Global is no global", rooted(locks(FIFTEEN + ["Global"]))),
+        ("sixteen lock keys, one empty", rooted(locks(FIFTEEN + [""]))),
+        ("1,000 lock keys", rooted(locks(range(1_000)))),
+        ("too many resources before the children", rooted(locks(FIFTEEN + ["x"]) + ',"children":[3]')),
+        ("sixteenth lock key of a child", rooted(f'{locks(FIFTEEN)},"children":[{SIXTEENTH}]')),
+        ("sixteenth lock key below a skipped node", rooted(f',"skip":"off"{locks(FIFTEEN)},"children":[{SIXTEENTH}]')),
+    ],
+    "plan too deep": [
+        ("61 levels", chain(61)),
+        ("62 levels", chain(62)),
+        ("61 levels of dynamic nodes", chain(61, member="dynamic")),
+        ("level 61 before its members", chain(60, ',"children":[3]')),
+        ("level 61 of a dynamic node", chain(60, ',"dynamic":[CHILD]'.replace("CHILD", CHILD))),
+    ],
+    "plan is not JSON": [("70 levels", chain(70)), ("1,000 levels", chain(1_000))],
+    "plan member /root/name is bad": [("an earlier fault before level 61", chain(61).replace('"name":"n"', '"name":3', 1))],
+    "plan member /root" + "/children/0" * 59 + "/dynamic is bad": [
+        ("member of level 60 before level 61", chain(60, ',"dynamic":3,"children":[3]')),
+    ],
+    "plan id is bad": [
+        ("empty tag before too many resources", plan_of('{"type":"test","segment":["","x"],"name":"e"' + locks(range(16)) + "}")),
         ("id of 4,097 bytes", long_id("x", 4_093)),
         ("id of 4,099 bytes with escapes", long_id("/", 1_365)),
         ("id of 4,098 bytes not ASCII", long_id("é", 2_047)),
@@ -132,7 +93,23 @@ LONG_IDS = [
         ("id of 4,097 bytes at level 60", chain(59, ',"children":[{"type":"test","segment":["t","' + "y" * 3_739 + '"],"name":"m"}]')),
         ("dynamic node's id of 4,097 bytes", long_id("x", 4_087, LOWER_OF_DYNAMIC)),
         ("child's id of 4,097 bytes below a skipped node", long_id("x", 4_087, ',"skip":"off"' + LOWER)),
+    ],
+}
+
+CASES = rows(__file__, globals()) + [refused(name, plan, line) for line, plans in REFUSED.items() for name, plan in plans]
+CASES += [
+    answer("plan/fifteen lock keys", "run", rooted(locks(FIFTEEN)), ONE_START),
+    answer("plan/fifteen lock keys and global", "run", rooted(locks(FIFTEEN + ["global"])), ONE_START),
+    answer("plan/fifteen lock keys twice", "run", rooted(locks(FIFTEEN + FIFTEEN)), ONE_START),
+    answer("plan/empty lock key", "run", rooted(locks(FIFTEEN[:14] + [""])), ONE_START),
+    answer("plan/60 levels", "run --workers 3", chain(60), chain_report(60)),
+    answer("plan/60 levels of dynamic nodes", "run --workers 3", chain(60, member="dynamic"), chain_report(60, is_dynamic=True)),
+    answer("plan/id of 4,096 bytes", "run", long_id("x", 4_092), long_id_report("x", 4_092)),
+    answer("plan/id of 4,096 bytes with escapes", "run", long_id("/", 1_364), long_id_report("%2F", 1_364)),
+    answer("plan/id of 4,096 bytes not ASCII", "run", long_id("é", 2_046), long_id_report("é", 2_046)),
+    answer("plan/child's id of 4,096 bytes", "run", long_id("x", 4_086, LOWER), two_passed(0, "")),
+    answer(
+        "plan/dynamic node's id of 4,096 bytes",
+        *("run", long_id("x", 4_086, LOWER_OF_DYNAMIC), two_passed(1, f"  dynamic|T|{LONG}/[c:y]|m\n")),
     ),
 ]
-
-CASES = rows(__file__, globals()) + TWICE + RESOURCES + LEVELS + LONG_IDS
