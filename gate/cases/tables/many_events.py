@@ -9,43 +9,23 @@ ROUNDS = 50_000
 """How many rounds of six events the record of 300,000 events has."""
 
 
-def many_events() -> bytes:
-    """A record of 300,000 events, each of which has its position as its stamp."""
-    nodes = "N|C|[engine:e]|e\n" + "".join(f"N|T|[engine:e]/[t:{key}]|t{key}\n" for key in (1, 2, 3))
-    lines = [HEADER, nodes]
-    for stamp in range(0, 6 * ROUNDS, 6):
-        lines.append(
-            f"E|1|1|{stamp}|start\n"
-            f"E|1|1|{stamp + 1}|report|k|v\n"
-            f"E|1|1|{stamp + 2}|finish|ok\n"
-            f"E|2|2|{stamp + 3}|start\n"
-            f"E|2|2|{stamp + 4}|finish|fail|boom\n"
-            f"E|3|3|{stamp + 5}|skip|off\n"
-        )
-    return "".join(lines).encode()
+def rounds(lines: str) -> str:
+    """These lines for each round, in which `{0}` to `{5}` are the positions of its events."""
+    return "".join(lines.format(*range(first, first + 6)) for first in range(0, 6 * ROUNDS, 6))
 
 
-def many_executions() -> bytes:
-    return "".join(
-        f"1 succeeded {stamp} {stamp + 2}\n2 failed {stamp + 3} {stamp + 4}\n3 skipped {stamp + 5} {stamp + 5}\n"
-        for stamp in range(0, 6 * ROUNDS, 6)
-    ).encode()
+NODES = "N|C|[engine:e]|e\n" + "".join(f"N|T|[engine:e]/[t:{key}]|t{key}\n" for key in (1, 2, 3))
+TESTS = "E|1|1|{0}|start\nE|1|1|{1}|report|k|v\nE|1|1|{2}|finish|ok\nE|2|2|{3}|start\nE|2|2|{4}|finish|fail|boom\n"
+EVENTS = lambda: (HEADER + NODES + rounds(TESTS + "E|3|3|{5}|skip|off\n")).encode()
+"""A record of 300,000 events, each of which has its position as its stamp."""
 
-
-def many_skips() -> bytes:
-    """The list of the skips."""
-    return "".join(f"{position} E|3|3|{position}|skip|off\n" for position in range(5, 6 * ROUNDS, 6)).encode()
-
-
-def many_explained_skips() -> bytes:
-    """The list of the skips with their descriptor."""
-    return many_skips().replace(b"\n", b'   [engine:e]/[t:3] "t3"\n')
-
-
-def many_explained_executions() -> bytes:
-    """The executions with their ids."""
-    return b"".join(line + b" [engine:e]/[t:" + line[:1] + b"]\n" for line in many_executions().split(b"\n")[:-1])
-
+EXECUTIONS = lambda: rounds("1 succeeded {0} {2}\n2 failed {3} {4}\n3 skipped {5} {5}\n").encode()
+EXPLAINED_EXECUTIONS = lambda: rounds(
+    "1 succeeded {0} {2} [engine:e]/[t:1]\n2 failed {3} {4} [engine:e]/[t:2]\n3 skipped {5} {5} [engine:e]/[t:3]\n"
+).encode()
+SKIPS = lambda: rounds("{5} E|3|3|{5}|skip|off\n").encode()
+EXPLAINED_SKIPS = lambda: rounds('{5} E|3|3|{5}|skip|off   [engine:e]/[t:3] "t3"\n').encode()
+"""The list of the skips, without and with their descriptor."""
 
 MANY_NUMBERS = dict(all=6 * ROUNDS, tests=6 * ROUNDS, started=2 * ROUNDS, finished=2 * ROUNDS)
 MANY_NUMBERS.update(skipped=ROUNDS, succeeded=ROUNDS, failed=ROUNDS, reporting=ROUNDS)
@@ -69,9 +49,6 @@ FOUND_SKIPS = "no 99\n" + "".join(f"{at} skipped(off)\n{SKIP.format(5 + 6 * at)}
 COUNTED_SKIPS = stats(skipped=ROUNDS) + f"mismatch skipped expected 0 actual {ROUNDS}\n" + "".join(SKIP.format(at) for at in range(5, 125, 6))
 COUNTED_SKIPS += f"    and {ROUNDS - 20} more\n"
 
-EVENTS, SKIPS, EXECUTIONS = many_events, many_skips, many_executions
-EXPLAINED_SKIPS, EXPLAINED_EXECUTIONS = many_explained_skips, many_explained_executions
-
 
 def hundred_events() -> bytes:
     lines = [f"E|1|0|{stamp}|" + ("start\n" if stamp % 2 == 0 else "finish|ok\n") for stamp in range(100)]
@@ -81,7 +58,7 @@ def hundred_events() -> bytes:
 OF_HUNDRED = "".join(f"0 succeeded {stamp} {stamp + 1}\n" for stamp in range(0, 100, 2))
 
 CASES = rows(__file__, globals()) + [
-    *[answer(f"300,000 events/count {name}", f"ask count {name}", many_events, str(MANY_NUMBERS.get(name, 0))) for name in form.SELECTIONS],
+    *[answer(f"300,000 events/count {name}", f"ask count {name}", EVENTS, str(MANY_NUMBERS.get(name, 0))) for name in form.SELECTIONS],
     answer("100 events/exactly", "ask match exactly" + " started succeeded" * 50, hundred_events, "yes"),
     no("100 events/exactly, the last fails", "ask match exactly" + " started succeeded" * 49 + " started" * 2, hundred_events, "no 99"),
     answer("100 events/executions", "ask executions", hundred_events, OF_HUNDRED),
