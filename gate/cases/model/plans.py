@@ -37,8 +37,7 @@ class Node:
     segment: Segment
     name: str
     skip: Optional[str] = None
-    status: str = "ok"
-    message: Optional[str] = None
+    result: Tuple[str, Optional[str]] = ("ok", None)
     is_concurrent: bool = False
     is_isolated: bool = False
     locks: List[Tuple[str, str]] = field(default_factory=list)
@@ -158,14 +157,15 @@ def check_node(value: object, path: str, is_static: bool, version: int) -> Node:
     unknown = ([] if is_static else OF_STATIC_NODES) + ["files"] * (version < form.FILE_VERSION)
     names = [name for name in MEMBERS if name not in unknown]
     for name, member, member_path in check_members(value, path, names, ["type", "segment", "name"]):
-        vars(node).update(MEMBERS[name](member, member_path))
+        field_name, check = MEMBERS[name]
+        setattr(node, field_name, check(member, member_path))
     return node
 
 
-def check_isolated(value: object, path: str) -> Dict[str, object]:
+def check_flag(value: object, path: str) -> bool:
     if not isinstance(value, bool):
         raise Wrong(path)
-    return {"is_isolated": value}
+    return value
 
 
 def check_file(value: object, path: str) -> str:
@@ -174,31 +174,26 @@ def check_file(value: object, path: str) -> str:
     return value
 
 
-def each(check: Callable, value: object, path: str) -> List:
-    return [check(item, item_path) for item, item_path in check_array(value, path)]
+def each(check: Callable) -> Callable[[object, str], List]:
+    """Checks each item of an array."""
+    return lambda value, path: [check(item, item_path) for item, item_path in check_array(value, path)]
 
 
-def check_below(value: object, path: str) -> Dict[str, object]:
-    """The nodes below a node are read later."""
-    check_array(value, path)
-    return {}
-
-
-MEMBERS: Dict[str, Callable[[object, str], Dict[str, object]]] = {
-    "type": lambda value, path: {"letter": NODE_TYPES[check_word(value, path, NODE_TYPES)]},
-    "segment": lambda value, path: {"segment": check_pair(value, path)},
-    "name": lambda value, path: {"name": check_text(value, path)},
-    "mode": lambda value, path: {"is_concurrent": check_word(value, path, ["same_thread", "concurrent"]) == "concurrent"},
-    "isolated": check_isolated,
-    "locks": lambda value, path: {"locks": each(check_lock, value, path)},
-    "skip": lambda value, path: {"skip": check_text(value, path)},
-    "result": lambda value, path: dict(zip(("status", "message"), check_result(value, path))),
-    "entries": lambda value, path: {"entries": each(lambda *entry: each(check_pair, *entry), value, path)},
-    "files": lambda value, path: {"files": each(check_file, value, path)},
-    "children": check_below,
-    "dynamic": check_below,
+MEMBERS: Dict[str, Tuple[str, Callable[[object, str], object]]] = {
+    "type": ("letter", lambda value, path: NODE_TYPES[check_word(value, path, NODE_TYPES)]),
+    "segment": ("segment", check_pair),
+    "name": ("name", check_text),
+    "mode": ("is_concurrent", lambda value, path: check_word(value, path, ["same_thread", "concurrent"]) == "concurrent"),
+    "isolated": ("is_isolated", check_flag),
+    "locks": ("locks", each(check_lock)),
+    "skip": ("skip", check_text),
+    "result": ("result", check_result),
+    "entries": ("entries", each(each(check_pair))),
+    "files": ("files", each(check_file)),
+    "children": ("children", lambda value, path: check_array(value, path)[:0]),
+    "dynamic": ("dynamic", lambda value, path: check_array(value, path)[:0]),
 }
-"""What each member of a node says of it."""
+"""What each member of a node says of it; the nodes below it are read later."""
 OF_STATIC_NODES = ["mode", "isolated", "locks", "children"]
 
 
@@ -288,7 +283,8 @@ def script(node: Node, above: Id = ()) -> Iterator[Tuple[Descriptor, Event]]:
         registered = Descriptor(child.letter, descriptor.id + (child.segment,), child.name)
         yield registered, Event("dynamic", descriptor=registered)
         yield from script(child, descriptor.id)
-    yield descriptor, Event("finish", status=node.status, message=node.message)
+    status, message = node.result
+    yield descriptor, Event("finish", status=status, message=message)
 
 
 def static_nodes(node: Node, above: Id = ()) -> Iterator[Tuple[Descriptor, Node]]:
