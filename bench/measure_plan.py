@@ -38,7 +38,7 @@ SHAPES: Dict[str, Callable[[], Node]] = {
 def seconds(command: List[str], path: str) -> List[float]:
     """What the program prints of one reading: microseconds, or those of serde_json without and with dropping the value."""
     with open(path, "rb") as file:
-        return [int(word) / 1e6 for word in building.call([*timing.PRIORITY, *command], stdin=file).split()]
+        return [int(word) / 1e6 for word in building.call(command, stdin=file).split()]
 
 
 def measure(folder: str) -> None:

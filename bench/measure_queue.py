@@ -27,7 +27,7 @@ def measure(folder: str) -> None:
     # (each run prints three rounds)
     for _ in range(timing.ROUNDS):
         for name, command in commands.items():
-            for line in building.call([*timing.PRIORITY, *command]).splitlines():
+            for line in building.call(command).splitlines():
                 senders, events, microseconds = map(int, line.split())
                 if events != senders * EVENTS_OF_A_SENDER:
                     raise building.Failed(f"{events} events of {senders} senders came")

@@ -1,7 +1,4 @@
-"""Runs commands in turn on an input, and gives the medians of the time that they took and the most memory.
-
-On a busy machine PRIORITY="chrt -f 10" in the environment gives each program a processor when it wants it.
-"""
+"""Runs commands in turn on an input, and gives the medians of the time that they took and the most memory."""
 
 import os
 import subprocess
@@ -14,8 +11,6 @@ from building import Failed
 
 ROUNDS = 5
 """How often each command is run, in turn with the others, so that all meet the same load."""
-
-PRIORITY = os.environ.get("PRIORITY", "").split()
 
 
 @dataclass
@@ -41,7 +36,7 @@ class Taken:
     def add_run(self, command: Sequence[str], input_path: str) -> None:
         with open(input_path, "rb") as given, open(self.output, "wb") as written:
             begun = time.monotonic()
-            child = subprocess.Popen([*PRIORITY, *command], stdin=given, stdout=written)
+            child = subprocess.Popen(command, stdin=given, stdout=written)
             _, child.returncode, usage = os.wait4(child.pid, 0)
         if child.returncode:
             raise Failed(f"{' '.join(command[:3])} failed")

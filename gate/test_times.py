@@ -3,6 +3,7 @@
 import os
 import subprocess
 import sys
+import time
 import unittest
 
 import times
@@ -24,17 +25,16 @@ class Times(unittest.TestCase):
 
     def test_kinds(self) -> None:
         """Each process counts by its crate and its work, with what it started; others don't, and nothing counts twice."""
-        at, watch = folder(self), times.Watch()
-        burn = ("-SE", "-c", BURN)
-        self.start(at, "/kit/rattle", *burn, "check", "--crate-name", "tk_a")
-        self.start(at, "/kit/rattle", *burn, "build", "--crate-name", "tk_a", "--test")
-        self.start(at, "/kit/rattle", "-SE", "-c", BURNS_BELOW, BURN, "build", "--crate-name", "tk_b", "--test")
-        self.start(f"{at}/rt-edit-1", "/kit/rattle", *burn, "check", "--crate-name", "tk_b")
-        self.start(at, "/tmp/rt-run-1/bin/tk_c_tests", *burn)
-        self.start(at, "/kit/rattle", *burn, "doc")
-        self.start(at, "/bin/cat", *burn, "check", "--crate-name", "tk_d")
-        for _ in range(2):
-            watch.look()
+        at, burn = folder(self), ("-SE", "-c", BURN)
+        with times.Watch(period=0.01) as watch:
+            self.start(at, "/kit/rattle", *burn, "check", "--crate-name", "tk_a")
+            self.start(at, "/kit/rattle", *burn, "build", "--crate-name", "tk_a", "--test")
+            self.start(at, "/kit/rattle", "-SE", "-c", BURNS_BELOW, BURN, "build", "--crate-name", "tk_b", "--test")
+            self.start(f"{at}/rt-edit-1", "/kit/rattle", *burn, "check", "--crate-name", "tk_b")
+            self.start(at, "/tmp/rt-run-1/bin/tk_c_tests", *burn)
+            self.start(at, "/kit/rattle", *burn, "doc")
+            self.start(at, "/bin/cat", *burn, "check", "--crate-name", "tk_d")
+            time.sleep(0.5)
         found = {(crate, kind): seconds for crate, row in watch.by_crate().items() for kind, seconds in row.items() if seconds}
         wanted = [("tk_a", "proof"), ("tk_a", "tests"), ("tk_b", "tests"), ("tk_b", "wrong bodies"), ("tk_c", "runs")]
         self.assertEqual(sorted(found), wanted)
@@ -47,8 +47,3 @@ class Times(unittest.TestCase):
         wanted = ["seconds proof tests wrong bodies runs crate", "100 40 60 0 0 tk_b", "11 10 0 0 1 tk_a", "111 50 60 0 1 all crates"]
         self.assertEqual([" ".join(it.split()) for it in watch.lines()], wanted)
 
-    def test_watch(self) -> None:
-        """It looks while it is entered."""
-        with times.Watch(period=0.01) as watch:
-            self.start(folder(self), "rattle", "-SE", "-c", BURN, "check", "--crate-name", "tk_a")
-        self.assertEqual(list(watch.by_crate()), ["tk_a"])

@@ -277,14 +277,13 @@ def gaps_of(record: Record) -> List[Tuple[int, int]]:
 def row_of(record: Record, it: Execution, descriptor: int, origin: int) -> List[object]:
     """What the page has of an execution, in the order of `COLUMNS`."""
     start, stop = record.events[it.first], record.events[it.last] if it.last is not None and it.ending != UNFINISHED else None
-    drawn = [it.entries, round(it.begin, 6), round(it.end, 6), it.row, it.height]
-    worker = start.worker % NUMBERS
-    if not stop:
-        return [descriptor, it.ending, worker, None, start.position, None, str(start.stamp - origin), None, None, *drawn]
-    # (the reason of a skip, or the message of a finish)
-    message = next(iter(stop.fields[0 if stop.kind == "skip" else 1 :]), None)
-    stamps = [str(start.stamp - origin), str(stop.stamp - origin)]
-    return [descriptor, it.ending, worker, stop.worker % NUMBERS, start.position, stop.position, *stamps, message, *drawn]
+    worker, position, stamp, message = None, None, None, None
+    if stop:
+        # (the reason of a skip, or the message of a finish)
+        message = next(iter(stop.fields[0 if stop.kind == "skip" else 1 :]), None)
+        worker, position, stamp = stop.worker % NUMBERS, stop.position, str(stop.stamp - origin)
+    ends = [start.worker % NUMBERS, worker, start.position, position, str(start.stamp - origin), stamp, message]
+    return [descriptor, it.ending, *ends, it.entries, round(it.begin, 6), round(it.end, 6), it.row, it.height]
 
 
 def data_of(record: Record, unit: int, names: Sequence[str] = ()) -> Dict[str, object]:

@@ -482,14 +482,6 @@ EXAMPLES = [
     of_python("a late thread", LATE_THREAD, "requests", late=1_500),
 ]
 
-SLOW, FAST, LARGE = Costs(0.5, 9, 9, 9, 9, 0), Costs(0.1, 9, 9, 9, 9, 0), Costs(0.5, 3_000, 9, 9, 9, 0)
-RUNS = [
-    ("a slow run and a fast one", [SLOW, FAST], ""),
-    ("slow runs", [SLOW, SLOW, SLOW], "seconds"),
-    ("a slow run, and one with much memory", [SLOW, LARGE], "seconds, memory"),
-]
-"""What runs of a row cost, and the costs that are above its limit."""
-
 
 class OfExamples(WithCounts):
     """The counts and the limits themselves."""
@@ -506,9 +498,10 @@ class OfExamples(WithCounts):
         # (what is right besides is found right: the answer, where it isn't what is wrong)
         self.assertEqual("it writes" in faults, "status" in fault or "it writes" in fault, faults)
 
-    @parameterized(RUNS)
-    def test_runs(self, runs, wanted):
-        left = iter(runs)
-        row = Row("runs", [], lambda: b"", Costs(0.4, 2_000, 200, 40, 40, 1), "xx")
-        faults = faults_of_runs(row, lambda: (next(left), 0, "xx"))
-        self.assertEqual((wanted, []), (", ".join(fault.split()[0] for fault in faults), list(left)))
+    @parameterized([("a slow run and a fast one", [2, 1], 0, 0), ("slow runs", [2, 2, 2], 0, 1), ("much memory", [2], 3_000, 2)])
+    def test_runs(self, seconds, memory, wanted):
+        """A run that is only too slow is repeated, and no other."""
+        left = iter(seconds)
+        row = Row("runs", [], lambda: b"", Costs(1, 2_000, 0, 0, 0), "xx")
+        faults = faults_of_runs(row, lambda: (Costs(next(left), memory, 0, 0, 0), 0, "xx"))
+        self.assertEqual((wanted, []), (len(faults), list(left)))

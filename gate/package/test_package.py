@@ -215,15 +215,8 @@ class Made(unittest.TestCase):
                 self.assertTrue(drawn.output.startswith(begin) and b"[engine:e]/[t:1]" in drawn.output, drawn.error)
             made = run([f"{tools}from-open-test-reporting"], report, env=environment)
             self.assertEqual(made.output, read(f"{TOP}/gate/junit/open-test-reporting.record"), made.error)
-        explained = run([f"{self.deb}/{EXPLAIN}", "list", "failed"], record, env=environment)
+        explained = run([f"{self.deb}/{EXPLAIN}", "list", "failed", "not(name(a b))"], record, env=environment)
         self.assertEqual(explained.output, b'2 E|1|1|2|finish|fail|boom   [engine:e]/[t:1] "one"\n', explained.error)
-
-    def test_explain(self):
-        """Its words reach the program as they are."""
-        at = folder(self)
-        write(f"{at}/testkit", "#!/bin/sh\nprintf '<%s>' \"$@\"\n", 0o755)
-        ran = run([f"{self.deb}/{EXPLAIN}", "list", "name(a b)", "*", ""], env={"PATH": f"{at}:{os.environ['PATH']}"})
-        self.assertEqual(ran.output, b"<ask><explain><list><name(a b)><*><>", ran.error)
 
     @unittest.skipUnless(HAS_JAVA, "no javac")
     def test_jar(self):
@@ -349,12 +342,9 @@ class ManPage(unittest.TestCase):
         self.assertEqual([page, page], others)
 
     def test_words(self):
-        """It has each word of a question."""
-        words = "all tests containers skipped started finished aborted succeeded failed reporting dynamic files exactly loosely in-order "
-        words += "test container engine id(TEXT) name(TEXT) failed(TEXT) aborted(TEXT) skipped(TEXT) entry(KEY,VALUE,..) file(TEXT) kind(K) "
-        words += "skip start finish report file %25 %28 %29 %2C QUESTION segment(TAG,VALUE) message(TEXT) --workers --record --unit "
-        words += f"explain testkit-explain {' '.join(f'testkit-{it}' for it in COMMANDS)}"
-        self.assertEqual([it for it in words.split() if not re.search(rf"(?<!\w){re.escape(it)}(?!\w)", self.TEXT)], [])
+        """It has each word by which the page explains its command lines, and the commands of the package."""
+        words = re.findall(r"[\w-]+", USAGE[USAGE.index("\n\n") : USAGE.index("docs/FORMATS.md")]) + [f"testkit-{it}" for it in COMMANDS]
+        self.assertEqual([it for it in words if not re.search(rf"(?<!\w){it}(?!\w)", self.TEXT)], [])
 
     @needs("groff")
     def test_roff(self):
