@@ -20,16 +20,15 @@ MAY_ABORT = {"theProgramIsOnThePathWithoutAProperty", *([] if REAL else ["thePro
 
 @java.needs_junit
 class OfRecordAssert(Compiled):
-    """The tests, each of which is a case here; and one again where Java can't hand over letters outside of ASCII."""
+    """The tests; and one again where Java can't hand over letters outside of ASCII."""
 
     def play(self, name, locale, *words):
         """Runs tests in a locale, and returns the tails of each test's events by its method."""
-        service, scratch = f"{self.out}/{name}.service", f"{self.out}/{name}.tmp"
-        java.with_service(self.classes, service)
+        scratch = f"{self.out}/{name}.tmp"
         os.mkdir(scratch)
         properties = {"java.io.tmpdir": scratch, "testkit.real": REAL, "testkit.record": f"{self.out}/{name}.record"}
         command = [*java.COMMAND, *(f"-D{key}={value}" for key, value in properties.items()), "-jar", java.CONSOLE, *words]
-        command += ["-cp", ":".join(filter(None, [self.classes.folder, service, java.KIT])), "--disable-banner", "--disable-ansi-colors"]
+        command += ["-cp", ":".join(filter(None, [self.classes.folder, self.service, java.KIT])), "--disable-banner", "--disable-ansi-colors"]
         ran = fixtures.run(command, seconds=java.SECONDS, env={**os.environ, "LC_ALL": locale})
         self.assertEqual(ran.status, 0, ran.output.decode(errors="replace"))
         lines = self.lines(f"{name}.record")
@@ -42,12 +41,9 @@ class OfRecordAssert(Compiled):
     def test_each(self):
         found, left = self.play("assert", "C.UTF-8", "--select-class", "testkit.RecordAssertTests")
         self.assertGreaterEqual(len(found), TESTS)
-        for method, tails in found.items():
-            with self.subTest(method):
-                is_left_out = method in MAY_ABORT and tails[1:2] and tails[1].startswith("finish|abort|Assumption failed: ")
-                self.assertTrue(is_left_out or tails == ["start", "finish|ok"], tails)
-        with self.subTest("the records that stay are those of refused results"):
-            self.assertEqual(sum(name.endswith(".record") for name in left), 2, left)
+        left_out = {it for it in MAY_ABORT if found[it][1].startswith("finish|abort|Assumption failed: ")}
+        self.assertEqual({it: tails for it, tails in found.items() if it not in left_out and tails != ["start", "finish|ok"]}, {})
+        self.assertEqual(sum(name.endswith(".record") for name in left), 2, "the records that stay are those of refused results")
 
     def test_letters_that_java_would_change(self):
         found, _ = self.play("ascii", "C", "--select-method", "testkit.RecordAssertTests#lettersAreHandedOverOrRefused")

@@ -41,7 +41,8 @@ class WithClasses(unittest.TestCase):
         cls.addClassCleanup(cls.room.cleanup)
         cls.out = f"{os.path.realpath(cls.room.name)}/out"
         os.mkdir(cls.out)
-        cls.classes = java.compiled(f"{cls.room.name}/classes")
+        cls.classes, cls.service = java.compiled(f"{cls.room.name}/classes"), f"{cls.room.name}/service"
+        java.with_service(cls.classes, cls.service)
 
     def lines(self, name):
         text = cases.read(f"{self.out}/{name}")
@@ -172,26 +173,21 @@ class ErrorsTest {
 class OfConsole(WithClasses):
     """A run of JUnit's console, which finds the listener by its service and captures what tests write on standard error."""
 
-    @classmethod
-    def setUpClass(cls):
-        super().setUpClass()
-        java.with_service(cls.classes, f"{cls.out}/service")
-
-    def play(self, folder, words, settings):
+    def play(self, name, folder, words, settings):
         """Runs tests whose classes are in a folder, and returns what is on standard error, and the lines of the record."""
-        path = f"{tempfile.mkdtemp(dir=self.out)}/run.record"
-        words = ["-jar", java.CONSOLE, "-cp", f"{folder}:{self.out}/service", "--details", "none", *words]
-        for name, value in {"testkit.record": path, **settings}.items():
-            words += ["--config", f"{name}={value}"]
-        ran = fixtures.run([*java.COMMAND, *words], seconds=java.SECONDS)
+        settings = {"testkit.record": f"{self.out}/{name}.record", **settings}
+        words = [*words, *(word for key, value in settings.items() for word in ("--config", f"{key}={value}"))]
+        console = [*java.COMMAND, "-jar", java.CONSOLE, "-cp", f"{folder}:{self.service}", "--details", "none"]
+        ran = fixtures.run([*console, *words], seconds=java.SECONDS)
         self.assertEqual(ran.status, 0, ran)
-        return ran.error, self.lines(os.path.relpath(path, self.out))
+        return ran.error, self.lines(f"{name}.record")
 
     def test_captured_errors(self):
         """What the listener says in a test goes to the console, and not into an entry of the test."""
         fixtures.write(f"{self.out}/ErrorsTest.java", TEST)
         java.Classes(f"{self.out}/tests").compile([f"{self.out}/ErrorsTest.java"])
-        errors, lines = self.play(f"{self.out}/tests", ["--select-class", "ErrorsTest"], {"junit.platform.output.capture.stderr": "true"})
+        captured = {"junit.platform.output.capture.stderr": "true"}
+        errors, lines = self.play("errors", f"{self.out}/tests", ["--select-class", "ErrorsTest"], captured)
         self.assertIn(b"are one text, and the second is left out", errors)
         reports = [it.tail for it in entries(lines) if it.tail.startswith("report|")]
         self.assertEqual(reports, ["report|\ufffd|v", "report|stderr|of b\\n"])
@@ -199,11 +195,10 @@ class OfConsole(WithClasses):
     def test_locks(self):
         """The locks of Jupiter's tests, also of classes that a filter of tags excludes, and that stay for the sake of their tests."""
         classes = ["--select-class", "testkit.LockTests", "--select-class", "testkit.LockTests$AloneTests", "--include-tag", "chosen"]
-        _, lines = self.play(self.classes.folder, classes, samples.PARALLEL)
+        _, lines = self.play("locks", self.classes.folder, classes, samples.PARALLEL)
         self.assertEqual(lines[0], HEADER_WITH_LOCKS)
         self.assertEqual(locks_by_id(lines), samples.LOCKS)
-        with self.subTest("the answer of the program"):
-            if not os.access(fixtures.PROGRAM, os.X_OK):
-                self.skipTest(fixtures.NO_PROGRAM)
-            ran = fixtures.ask(["ask", "locks"], "".join(f"{line}\n" for line in lines).encode())
-            self.assertEqual((ran.status, ran.output, ran.error), (0, b"yes\n", b""))
+        if not os.access(fixtures.PROGRAM, os.X_OK):
+            self.skipTest(fixtures.NO_PROGRAM)
+        ran = fixtures.ask(["ask", "locks"], "".join(f"{line}\n" for line in lines).encode())
+        self.assertEqual((ran.status, ran.output, ran.error), (0, b"yes\n", b""))

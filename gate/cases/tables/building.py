@@ -52,9 +52,9 @@ def as_output(text: Text) -> Bytes:
     return (text + "\n" * (text != "" and not text.endswith("\n"))).encode()
 
 
-def answer(name: str, words: Union[str, Sequence[Word]], data: Text, output: Text) -> Case:
+def answer(name: str, words: Union[str, Sequence[Word]], data: Text, output: Text, **how) -> Case:
     """The program answers: done, or yes."""
-    return Case(name, as_words(words), as_input(data), as_output(output))
+    return Case(name, as_words(words), as_input(data), as_output(output), **how)
 
 
 def no(name: str, words: Union[str, Sequence[Word]], data: Text, output: Text) -> Case:
@@ -62,9 +62,9 @@ def no(name: str, words: Union[str, Sequence[Word]], data: Text, output: Text) -
     return Case(name, as_words(words), as_input(data), as_output(output), status=1)
 
 
-def fault(name: str, words: Union[str, Sequence[Word]], data: Text, line: str, status: int = 2) -> Case:
+def fault(name: str, words: Union[str, Sequence[Word]], data: Text, line: str, status: int = 2, **how) -> Case:
     """The program refuses its words or its input with this line after its name, and writes nothing else."""
-    return Case(name, as_words(words), as_input(data), error=f"testkit: {line}\n".encode(), status=status)
+    return Case(name, as_words(words), as_input(data), error=f"testkit: {line}\n".encode(), status=status, **how)
 
 
 def refusals(*ways: Tuple[str, str, int, Text]) -> Callable[..., List[Case]]:

@@ -4,37 +4,29 @@ from typing import Callable, List
 
 import form
 from harness import Case, Input, Output
-from tables.building import as_bytes, as_words, record, rows, stats
+from tables.building import answer, as_bytes, as_words, fault, record, rows, stats
 from tables.texts import DEEP, DEMO_NODES, DEMO_PLAN, EMPTY, ONE_START, ONE_TEST_PLAN, SMALL_REPLAY, TWO_TESTS
 
-DEVICE_FAILED = b"testkit: device failed\n"
+DEVICE_FAILED = ("device failed", 3)
 CUT_START, CUT_REPLAY = ONE_START[:-1], SMALL_REPLAY[:-1]
 
 FAILING_INPUTS = [Input.CLOSED, Input.FOLDER]
 FAILING_OUTPUTS = [Output.FULL, Output.CLOSED, Output.BROKEN_PIPE]
 
 
-def refused(name: str, words: str, data: object, line: str, kind: Input, status: int = 2) -> Case:
-    return Case(name, as_words(words), data, error=f"testkit: {line}\n".encode(), status=status, standard_input=kind)
-
-
 def reading(words: str) -> List[Case]:
-    return [refused(f"input/{kind.name}, {words}", words, b"", "device failed", kind, 3) for kind in FAILING_INPUTS]
+    return [fault(f"input/{kind.name}, {words}", words, b"", *DEVICE_FAILED, standard_input=kind) for kind in FAILING_INPUTS]
 
 
 def writing(words: str, text: str) -> List[Case]:
-    return [
-        Case(f"output/{kind.name}, {words}", as_words(words), as_bytes(text), error=DEVICE_FAILED, status=3, standard_output=kind)
-        for kind in FAILING_OUTPUTS
-    ]
+    return [fault(f"output/{kind.name}, {words}", words, text, *DEVICE_FAILED, standard_output=kind) for kind in FAILING_OUTPUTS]
 
 
 def bad_words(words: str, line: str) -> List[Case]:
     """The fault of the words comes before that of an input, and while somebody may still write the input."""
     texts = {"nothing written": "", "a text written": ONE_START, "half a line": ONE_TEST_PLAN[:40]}
-    return [refused(f"input/{kind.name}, {words} comes first", words, b"", line, kind) for kind in FAILING_INPUTS] + [
-        refused(f"open input/{beginning}, {words}", words, text.encode(), line, Input.OPEN) for beginning, text in texts.items()
-    ]
+    failing = [fault(f"input/{kind.name}, {words} comes first", words, b"", line, standard_input=kind) for kind in FAILING_INPUTS]
+    return failing + [fault(f"open input/{it}, {words}", words, text, line, standard_input=Input.OPEN) for it, text in texts.items()]
 
 
 def nothing_written(name: str, words: str, text: str, line: str = "") -> List[Case]:
@@ -47,7 +39,7 @@ def error_fails(name: str, words: str, text: str) -> List[Case]:
 
 
 BEFORE_THE_WORKERS = [
-    refused(f"input/{kind.name} comes before the number of workers", "run --workers 0", b"", "device failed", kind, 3)
+    fault(f"input/{kind.name} comes before the number of workers", "run --workers 0", b"", *DEVICE_FAILED, standard_input=kind)
     for kind in FAILING_INPUTS
 ]
 
@@ -60,7 +52,7 @@ GOOD = [
 ]
 
 GOOD_INPUTS = [
-    Case(f"input/{kind.name}, {words}", as_words(words), as_bytes(data), as_bytes(output), standard_input=kind)
+    answer(f"input/{kind.name}, {words}", words, data, output, standard_input=kind)
     for kind in [Input.FILE, Input.PIECES]
     for words, data, output in GOOD
 ]
@@ -71,10 +63,8 @@ def sixteen_mebibytes(before: bytes, after: bytes) -> Callable[[], bytes]:
     return lambda: before + b"x" * (form.MAX_TEXT - len(before) - len(after)) + after
 
 
-OUT_OF_MEMORY = dict(error=b"testkit: out of memory\n", status=3, memory=16_000)
-
 LITTLE_MEMORY = [
-    Case(f"little memory/{words} of 16 MiB", as_words(words), sixteen_mebibytes(header, rest), **OUT_OF_MEMORY)
+    fault(f"little memory/{words} of 16 MiB", words, sixteen_mebibytes(header, rest), "out of memory", 3, memory=16_000)
     for words, header, rest in [
         ("ask stats", as_bytes(record()) + b"N|T|[engine:e]|", b"\n"),
         ("replay", b"testkit-replay|1\nW|1\nN|T|[engine:e]|", b"\nS\n"),
@@ -83,14 +73,12 @@ LITTLE_MEMORY = [
 ]
 """16 MiB of text don't fit into 16,000 KiB, and a program without it does."""
 
-NO_THREAD = [
-    Case(f"no thread/{words}", as_words(words), as_bytes(DEMO_PLAN), error=b"testkit: no thread\n", status=3, memory=9_000)
-    for words in ["run", f"run --workers {form.MAX_WORKERS}"]
-]
+NO_THREAD = [fault(f"no thread/{it}", it, DEMO_PLAN, "no thread", 3, memory=9_000) for it in ["run", f"run --workers {form.MAX_WORKERS}"]]
 """A thread's stack of 8,192 KiB doesn't fit into 9,000 KiB beside a program, and a program without threads does."""
 
+filled = lambda text: lambda: text.encode().ljust(form.MAX_TEXT + 1)
 TOO_LARGE = [
-    refused(f"open input/16 MiB and a byte, {words}", words, lambda text=text: text.encode().ljust(form.MAX_TEXT + 1), "input too large", Input.OPEN)
+    fault(f"open input/16 MiB and a byte, {words}", words, filled(text), "input too large", standard_input=Input.OPEN)
     for words, text in [
         *[(f"ask {it}", ONE_START) for it in ("stats", "match in-order started", "list all", "explain loosely started")],
         *[("replay", SMALL_REPLAY), ("run", ONE_TEST_PLAN), ("run --workers 0", ONE_TEST_PLAN)],

@@ -1,13 +1,13 @@
 """Long outputs to a full device, and to a pipe that is closed after a few bytes."""
 
 from harness import Case, Output
-from tables.building import as_words
+from tables.building import as_words, fault
 from tables.large_plans import CONCURRENT, nodes, plan, report_of
 from tables.long_inputs import long_replay, long_replay_record
 from tables.many_events import EVENTS, EXECUTIONS, EXPLAINED_SKIPS, SKIPS
 
 CASES = [
-    Case(f"full device/{name}", as_words(words), data, error=b"testkit: device failed\n", status=3, standard_output=Output.FULL)
+    fault(f"full device/{name}", words, data, "device failed", 3, standard_output=Output.FULL)
     for name, words, data in [
         ("a long list of events", "ask list all", EVENTS),
         ("a long list of executions", "ask executions", EVENTS),
