@@ -7,7 +7,6 @@ seconds of processor time and by the clock, medians of five runs in turn; the ra
 
 import building
 import inputs
-import timing
 
 TESTS = 20_000
 LINE = "bodies_bench may_wait=3: tk_engine_hierarchical tk_engine_unit_events tk_engine_scripted tk_engine_execute tk_plan_reading tk_plan tk_record tk_ids"
@@ -19,11 +18,11 @@ def measure(folder: str) -> None:
         building.apart(inputs.write_plan, f"{folder}/{mode}", lambda mode=mode: dict(children=[inputs.test("t", str(it), mode=mode) for it in range(TESTS)]))
     program = building.build_program(folder, LINE, "bodies/main.rt.in", f"{folder}/concurrent")
     for shape, mode in MODES.items():
-        bodies, scripted = timing.take([[program, "bodies"], [program]], f"{folder}/{mode}", folder)
+        bodies, scripted = building.take([[program, "bodies"], [program]], f"{folder}/{mode}", folder)
         if bodies.begins() != scripted.begins():
             raise building.Failed("the runs have different numbers of events")
         print(
-            f"{TESTS} tests, {shape}, {timing.load()}: bodies processor {bodies.processor:.3f} s, clock {bodies.clock:.3f} s,"
+            f"{TESTS} tests, {shape}, {building.load()}: bodies processor {bodies.processor:.3f} s, clock {bodies.clock:.3f} s,"
             f" scripted {scripted.processor:.3f} s, {scripted.clock:.3f} s, ratio {bodies.over(scripted)}",
             flush=True,
         )

@@ -14,7 +14,6 @@ from typing import Callable, Dict, List
 
 import building
 import inputs
-import timing
 from inputs import Node, test
 
 LINE = "plan_bench: tk_plan_reading tk_plan tk_locks tk_events tk_ids serde_json indexmap"
@@ -47,10 +46,10 @@ def measure(folder: str) -> None:
     program = building.build_program(folder, LINE, "plan/main.rt.in", f"{folder}/static-small")
     for shape in SHAPES:
         path = f"{folder}/{shape}"
-        rounds = [seconds([program, "json"], path) + seconds([program], path) for _ in range(timing.ROUNDS)]
+        rounds = [seconds([program, "json"], path) + seconds([program], path) for _ in range(building.ROUNDS)]
         alone, both, plan = map(statistics.median, zip(*rounds))
         print(
-            f"{shape}: {os.path.getsize(path) / 2**20:.1f} MiB, {timing.load()}: serde_json {alone:.3f} s (with dropping the value"
+            f"{shape}: {os.path.getsize(path) / 2**20:.1f} MiB, {building.load()}: serde_json {alone:.3f} s (with dropping the value"
             f" {both:.3f} s), read_plan {plan:.3f} s, ratio {plan / alone:.2f} (goal: at most 2.5), with dropping the value {plan / both:.2f}",
             flush=True,
         )

@@ -14,7 +14,6 @@ from collections import defaultdict
 from typing import Dict, List, Tuple
 
 import building
-import timing
 
 LINE = "queue_bench: tk_queue_session tk_queue_core tk_record tk_events tk_ids tk_waiting"
 EVENTS_OF_A_SENDER = 50_000
@@ -25,14 +24,14 @@ def measure(folder: str) -> None:
     commands = {"ours": [ours], **{waiting: [plain, waiting] for waiting in ("sleep", "yield", "batch")}}
     rates: Dict[Tuple[str, int], List[float]] = defaultdict(list)
     # (each run prints three rounds)
-    for _ in range(timing.ROUNDS):
+    for _ in range(building.ROUNDS):
         for name, command in commands.items():
             for line in building.call(command).splitlines():
                 senders, events, microseconds = map(int, line.split())
                 if events != senders * EVENTS_OF_A_SENDER:
                     raise building.Failed(f"{events} events of {senders} senders came")
                 rates[name, senders].append(events / microseconds)
-    print(timing.load())
+    print(building.load())
     for senders in sorted(senders for name, senders in rates if name == "ours"):
         session, sleeping, yielding, batches = (statistics.median(rates[name, senders]) for name in commands)
         better = max(sleeping, yielding)

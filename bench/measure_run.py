@@ -11,7 +11,6 @@ from typing import Any, Callable, Dict, List
 
 import building
 import inputs
-import timing
 from inputs import Node, container, test
 
 WORKERS = [1, 2, 4]
@@ -35,18 +34,18 @@ PLANS: Dict[str, Callable[[], Node]] = {
 
 def measure(folder: str, program: str) -> None:
     plain = building.compile_on_serde(folder, "run/plain.rs")
-    print(timing.load())
+    print(building.load())
     for name, members in PLANS.items():
         plan = f"{folder}/{name}"
         building.apart(inputs.write_plan, plan, members)
         print(f"{name}: {os.path.getsize(plan) / 1e6:.1f} MB of JSON")
         for workers in WORKERS:
             of_run = ["run", "--workers", str(workers)]
-            ours, theirs = timing.take([[program, *of_run], [plain, *of_run]], plan, folder)
+            ours, theirs = building.take([[program, *of_run], [plain, *of_run]], plan, folder)
             if not filecmp.cmp(ours.output, theirs.output, shallow=False):
                 raise building.Failed(f"{name}: the reports differ")
             memory = f"memory {ours.memory:.0f} MiB, plain {theirs.memory:.0f} MiB"
-            print(f"  {workers} workers: {timing.beside(ours, theirs)}; {memory}", flush=True)
+            print(f"  {workers} workers: {building.beside(ours, theirs)}; {memory}", flush=True)
 
 
 if __name__ == "__main__":

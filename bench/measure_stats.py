@@ -11,7 +11,6 @@ import os
 
 import building
 import inputs
-import timing
 
 QUESTIONS = [
     ("one_segment", ["stats"]),
@@ -30,11 +29,11 @@ def measure(folder: str, program: str) -> None:
         path = f"{folder}/{name}"
         building.apart(inputs.write_record, path, name)
         size = os.path.getsize(path) / 2**20
-        ours, theirs = timing.take([[program, "ask", *question], [plain, *question]], path, folder)
+        ours, theirs = building.take([[program, "ask", *question], [plain, *question]], path, folder)
         agree = filecmp.cmp(ours.output, theirs.output, shallow=False)
         print(
-            f"{' '.join(question[:2])}, {name}, {size:.1f} MiB, {timing.load()}: answers {'agree' if agree else 'DIFFER'};"
-            f" {timing.beside(ours, theirs)} (goal: at least 4);"
+            f"{' '.join(question[:2])}, {name}, {size:.1f} MiB, {building.load()}: answers {'agree' if agree else 'DIFFER'};"
+            f" {building.beside(ours, theirs)} (goal: at least 4);"
             f" memory over input {ours.memory / size:.1f} (goal: at most 2), plain {theirs.memory / size:.1f}",
             flush=True,
         )

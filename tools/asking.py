@@ -40,10 +40,6 @@ def ask(file: BinaryIO, *words: bytes) -> Tuple[int, bytes]:
     return ran.returncode, ran.stdout
 
 
-def not_an_answer(status: int, output: bytes) -> Failed:
-    return Failed(f"{PROGRAM} answers {output[:80]!r} with status {status}")
-
-
 def say(text: bytes) -> None:
     """Writes on standard error, where that is open and takes it; the status stays what it is."""
     if sys.stderr:

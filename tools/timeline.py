@@ -33,7 +33,7 @@ HERE = os.path.dirname(os.path.realpath(__file__))
 sys.path.insert(0, HERE)
 sys.dont_write_bytecode = True
 
-from asking import Failed, ask, not_an_answer, run_script
+from asking import PROGRAM, Failed, ask, run_script
 
 UNITS = {"nanoseconds": 1, "microseconds": 1_000, "milliseconds": 1_000_000, "seconds": 1_000_000_000}
 
@@ -338,7 +338,7 @@ def read_records(paths: Sequence[str]) -> Tuple[List[bytes], List[str]]:
             file.write(texts[-1])
             answered = ask(file, b"executions")
         if answered != (0, Record(texts[-1]).answer()):
-            raise not_an_answer(*answered)
+            raise Failed(f"{PROGRAM} answers {answered[1][:80]!r} with status {answered[0]}")
     return texts, [os.path.basename(path) for path in paths]
 
 

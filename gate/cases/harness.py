@@ -1,8 +1,8 @@
 """Cases, and how one is run on the program.
 
 A `Case` is one start of the program: its words and its input, and what has to come on standard output, on
-standard error and as status. A `ThreadCount` also counts the threads of its runs. A `Check` compares two
-values without the program.
+standard error and as status. A `ThreadCount` also counts the threads of its runs, and the record of a
+`RecordedRun` is read again. A `Check` compares two values without the program.
 """
 
 import contextlib
@@ -19,6 +19,7 @@ from pathlib import Path
 from typing import BinaryIO, Callable, List, Optional, Sequence, Tuple, Union
 
 from fixtures import Ran, run
+from model.program import outcome
 
 Bytes = Union[bytes, Callable[[], bytes]]
 """Bytes, or a function that makes them when they are needed (for large ones)."""
@@ -145,6 +146,31 @@ class ThreadCount:
             if max(seen) >= self.threads:
                 break
         return None if max(seen) == self.threads else f"{max(seen)} threads, wanted {self.threads}"
+
+
+@dataclass(frozen=True)
+class RecordedRun:
+    """`run --record` of a plan by some workers. The record is not known but its answers are: the plan's report, a kept lifecycle, kept locks."""
+
+    name: str
+    plan: bytes
+    workers: int
+    report: bytes
+
+    def run(self, program: str) -> Optional[str]:
+        """What differs, or None where the case passes."""
+        words = [b"run", b"--record", b"--workers", str(self.workers).encode()]
+        ran = start(Case(self.name, words, self.plan), program)
+        if ran.status != 0 or ran.error:
+            return f"status {ran.status}, error {ran.error!r}"
+        for question, answers in ((b"report", [self.report]), (b"lifecycle", [b"yes\n"]), (b"locks", [b"yes\n", b"no pair\n"])):
+            modelled = outcome([b"ask", question], ran.output)
+            if modelled.output not in answers or modelled.error:
+                return f"the model answers {modelled!r} to {question!r} of {ran.output!r}"
+            fault = Case(self.name, [b"ask", question], ran.output, modelled.output, status=modelled.status).run(program)
+            if fault:
+                return f"{question!r} of {ran.output!r}: {fault}"
+        return None
 
 
 def start(case: Case, program: str, look: Callable = lambda _: None) -> Ran:

@@ -5,7 +5,7 @@ from dataclasses import dataclass
 from typing import Callable, Dict, List, Sequence
 
 import calls
-import headline
+from definitions import modules_of
 from facade import unnamed_words, unused_names
 from reach import reach_faults
 from restated import restated
@@ -14,6 +14,10 @@ from tree import Tree
 
 MOST_COLUMNS = 100
 """How many columns a line of a clause and of specs/ may have."""
+
+HEADLINE = "testkit_headline"
+THEOREMS = ("Headline", "Witnesses")
+"""The files whose records are theorems: what they alone name is read by nobody else."""
 
 
 @dataclass(frozen=True)
@@ -48,7 +52,7 @@ def rules_of(tree: Tree, limits: Limits) -> Dict[str, Rule]:
         "lines of clauses and definitions can be read": lambda: long_lines(tree, sources),
         "specs/steps has what no public contract reaches, and nothing else": lambda: reach_faults(tree),
         "no more lemmas say the same than did": lambda: restated(tree, limits.most_restated),
-        "each word of the headline is read": lambda: headline.unread_words(tree, sources),
+        "each word of the headline is read": lambda: unread_words(tree, sources),
         "HANDLES is unchanged": lambda: [] if tree.text("HANDLES") == limits.handles else [f"HANDLES differs from {limits.handles!r}"],
     }
 
@@ -69,3 +73,16 @@ def long_lines(tree: Tree, sources: Sequence[Source]) -> List[str]:
     for path in [it for it in tree.files if re.fullmatch(r"crates/\w+/specs/.*\.antt", it)]:
         lines += [(f"{path}:{at}", line) for at, line in enumerate(tree.text(path).split("\n"), 1) if not line.startswith("use ")]
     return [f"{place} has {len(line)} columns" for place, line in lines if len(line) > MOST_COLUMNS]
+
+
+def unread_words(tree: Tree, sources: Sequence[Source]) -> List[str]:
+    """Definitions of the headline's crate that no witness, no clause of a call and no definition that is read names."""
+    modules = [it for it in modules_of(tree) if it.crate == HEADLINE]
+    own = [(it.path, definition) for it in modules if it.name.split(".")[-1] not in THEOREMS for definition in it.definitions]
+    texts = [definition.text for it in modules if it.name.endswith(".Witnesses") for definition in it.definitions]
+    texts += [line for it in sources if it.crate == HEADLINE for line in it.clauses]
+    read, count = set(re.findall(r"\w+", "\n".join(texts))), -1
+    while len(read) > count:
+        count = len(read)
+        read |= {word for _, it in own if read & set(it.names) for word in re.findall(r"\w+", it.text)}
+    return [f"{path}: nothing but the headline reads {it.names[0]}" for path, it in own if not read & set(it.names)]

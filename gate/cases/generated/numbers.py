@@ -3,9 +3,8 @@
 from collections import Counter
 from typing import Callable, List, Sequence, Tuple, TypeVar, Union
 
-from harness import Case, Check
+from harness import Case, Check, RecordedRun
 from model.program import outcome
-from recorded import RecordedRun
 from tables.building import Word, as_words
 
 Item = TypeVar("Item")

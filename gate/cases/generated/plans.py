@@ -6,8 +6,7 @@ from typing import Dict, List, Tuple
 
 import form
 from generated.numbers import Cases, Numbers, each_is_met, met_series, modelled
-from harness import Case
-from recorded import RecordedRun
+from harness import Case, RecordedRun
 
 SEGMENTS = [["t", "1"], ["t", "2"], ["t", "10"], ["c", "a/b"], ["c", "%"], ["T", "|"], ["é", "x y"], ["t", "\n"], ["d", "[1]"]]
 TEXTS = ["", "off", "boom", "a|b", "back\\slash", "line\nfeed", "spät 🦀", "\t"]

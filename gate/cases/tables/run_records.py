@@ -1,7 +1,7 @@
 """`run --record`: the record of a run, known to the byte where one worker runs the plan, and read again where more do."""
 
 import form
-from recorded import RecordedRun
+from harness import RecordedRun
 from tables.building import answer, fault, lines_of, record, rows
 from tables.command_lines import DEMO_REPORT, ONE_TEST_REPORT, ONE_TOO_MANY, WORKERS
 from tables.plan_texts import children, dynamic, node, root
