@@ -154,7 +154,3 @@ def beside(ours: Taken, plain: Taken) -> str:
         f"processor {ours.processor:.3f} s, plain {plain.processor:.3f} s, ratio {plain.over(ours)};"
         f" clock {ours.clock:.3f} s, plain {plain.clock:.3f} s, ratio {plain.clock / ours.clock:.2f}"
     )
-
-
-def load() -> str:
-    return f"load {os.getloadavg()[0]:.1f} on {os.cpu_count()} processors"

@@ -22,7 +22,7 @@ def measure(folder: str) -> None:
         if bodies.begins() != scripted.begins():
             raise building.Failed("the runs have different numbers of events")
         print(
-            f"{TESTS} tests, {shape}, {building.load()}: bodies processor {bodies.processor:.3f} s, clock {bodies.clock:.3f} s,"
+            f"{TESTS} tests, {shape}: bodies processor {bodies.processor:.3f} s, clock {bodies.clock:.3f} s,"
             f" scripted {scripted.processor:.3f} s, {scripted.clock:.3f} s, ratio {bodies.over(scripted)}",
             flush=True,
         )

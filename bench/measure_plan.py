@@ -49,7 +49,7 @@ def measure(folder: str) -> None:
         rounds = [seconds([program, "json"], path) + seconds([program], path) for _ in range(building.ROUNDS)]
         alone, both, plan = map(statistics.median, zip(*rounds))
         print(
-            f"{shape}: {os.path.getsize(path) / 2**20:.1f} MiB, {building.load()}: serde_json {alone:.3f} s (with dropping the value"
+            f"{shape}: {os.path.getsize(path) / 2**20:.1f} MiB: serde_json {alone:.3f} s (with dropping the value"
             f" {both:.3f} s), read_plan {plan:.3f} s, ratio {plan / alone:.2f} (goal: at most 2.5), with dropping the value {plan / both:.2f}",
             flush=True,
         )

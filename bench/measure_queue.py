@@ -31,7 +31,6 @@ def measure(folder: str) -> None:
                 if events != senders * EVENTS_OF_A_SENDER:
                     raise building.Failed(f"{events} events of {senders} senders came")
                 rates[name, senders].append(events / microseconds)
-    print(building.load())
     for senders in sorted(senders for name, senders in rates if name == "ours"):
         session, sleeping, yielding, batches = (statistics.median(rates[name, senders]) for name in commands)
         better = max(sleeping, yielding)

@@ -34,7 +34,6 @@ PLANS: Dict[str, Callable[[], Node]] = {
 
 def measure(folder: str, program: str) -> None:
     plain = building.compile_on_serde(folder, "run/plain.rs")
-    print(building.load())
     for name, members in PLANS.items():
         plan = f"{folder}/{name}"
         building.apart(inputs.write_plan, plan, members)

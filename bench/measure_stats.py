@@ -32,7 +32,7 @@ def measure(folder: str, program: str) -> None:
         ours, theirs = building.take([[program, "ask", *question], [plain, *question]], path, folder)
         agree = filecmp.cmp(ours.output, theirs.output, shallow=False)
         print(
-            f"{' '.join(question[:2])}, {name}, {size:.1f} MiB, {building.load()}: answers {'agree' if agree else 'DIFFER'};"
+            f"{' '.join(question[:2])}, {name}, {size:.1f} MiB: answers {'agree' if agree else 'DIFFER'};"
             f" {building.beside(ours, theirs)} (goal: at least 4);"
             f" memory over input {ours.memory / size:.1f} (goal: at most 2), plain {theirs.memory / size:.1f}",
             flush=True,

@@ -6,8 +6,7 @@ import unittest
 from commands import examples_of
 from documents import documents_of
 from fixtures import PROGRAM, TOP, WithProgram, needs, parameterized, run
-from quotes import quotes_of
-from rules import rules_of
+from rules import quotes_of, rules_of
 from tree import Tree
 
 LISTED = ["README.md", *(f"docs/{it}.md" for it in "API ARCHITECTURE DECISIONS ENGINES FORMATS JUNIT PROVED SPEED TESTING".split())]

@@ -3,8 +3,7 @@
 from commands import examples_of
 from documents import documents_of
 from fixtures import parameterized, write
-from quotes import quotes_of
-from rules import rules_of
+from rules import quotes_of, rules_of
 from small_tree import SmallTree, rows_of
 from tree import Tree
 

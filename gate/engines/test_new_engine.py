@@ -20,12 +20,8 @@ def makes(words: str, page: str, given: str, *names: str) -> tuple:
     return words, words.split(" "), page, given, dict(name.split("=") for name in names)
 
 
-def refuses(words: str, fault: str, status: int = 1) -> tuple:
-    return repr(words), words.split(" "), fault, status
-
-
-def fails(words: str, fault: str) -> tuple:
-    return refuses(words, fault, 70)
+def refuses(words: str, fault: str, status: str = "1") -> tuple:
+    return repr(words), words.split(" "), fault, int(status)
 
 
 ROWS = rows(__file__, globals())

@@ -198,12 +198,8 @@ def sweeps(words: str, text: str, least: Dict[str, int], kept: int = 0, units: i
     return [replace(it, units=frozenset(range(units)), survived=1) if it.kind == "memory" else it for it in found]
 
 
-def of_a_record(words: str, text: str, memory: int = 29) -> List[Sweep]:
-    return sweeps(words, text, {"memory": memory, "read": 2, "write": 1})
-
-
-def of_a_long_record(words: str, text: str) -> List[Sweep]:
-    return of_a_record(words, text, 34)
+def of_a_record(words: str, text: str, memory: str = "29") -> List[Sweep]:
+    return sweeps(words, text, {"memory": int(memory), "read": 2, "write": 1})
 
 
 def of_a_run(words: str, text: str, threads: str, kept: int, units: str = "0") -> List[Sweep]:

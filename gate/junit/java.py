@@ -13,11 +13,8 @@ import listener
 
 LIBRARY = "/usr/share/java"
 CONSOLE = f"{LIBRARY}/junit-platform-console-standalone.jar"
-NAMES_OF_JARS = (
-    *("junit-platform-commons", "junit-platform-engine", "junit-platform-launcher", "junit-jupiter-api", "junit-jupiter-engine"),
-    *("junit-jupiter-params", "opentest4j", "apiguardian-api", "univocity-parsers"),
-)
-JARS = [f"{LIBRARY}/{name}.jar" for name in NAMES_OF_JARS]
+OTHERS = ("junit-jupiter-api", "junit-jupiter-engine", "junit-jupiter-params", "univocity-parsers")
+JARS = [*listener.JARS, *(f"{LIBRARY}/{name}.jar" for name in OTHERS)]
 EXAMPLES, HERE = f"{fixtures.TOP}/examples/junit", os.path.dirname(os.path.realpath(__file__))
 
 KIT = os.environ.get("KIT", "")

@@ -2,14 +2,13 @@
 
 import re
 from dataclasses import dataclass
-from typing import Callable, Dict, List, Sequence
+from typing import Callable, Dict, Iterable, List, Sequence, Set
 
-import calls
 from definitions import modules_of
 from facade import unnamed_words, unused_names
 from reach import reach_faults
 from restated import restated
-from sources import Source, sources_of
+from sources import Function, Source, sources_of
 from tree import Tree
 
 MOST_COLUMNS = 100
@@ -42,8 +41,8 @@ def rules_of(tree: Tree, limits: Limits) -> Dict[str, Rule]:
     tests = [line for it in sources if it.is_test for line in it.code if line.strip() == "#[test]"]
     wrong_bodies = [path for path in tree.files if re.fullmatch(r"crates/\w+/must-fail/\w+\.edit", path)]
     return {
-        "each public function is called": lambda: calls.uncalled(sources),
-        "each public function has a clause": lambda: calls.without_clause(sources, limits.without_clause),
+        "each public function is called": lambda: uncalled(sources),
+        "each public function has a clause": lambda: without_clause(sources, limits.without_clause),
         "each name that is given out to authors is used": lambda: unused_names(tree, sources),
         "each word of their clauses can be named": lambda: unnamed_words(tree, sources),
         "no fewer wrong bodies than there were": lambda: fewer("wrong bodies", len(wrong_bodies), limits.fewest_wrong_bodies),
@@ -86,3 +85,36 @@ def unread_words(tree: Tree, sources: Sequence[Source]) -> List[str]:
         count = len(read)
         read |= {word for _, it in own if read & set(it.names) for word in re.findall(r"\w+", it.text)}
     return [f"{path}: nothing but the headline reads {it.names[0]}" for path, it in own if not read & set(it.names)]
+
+
+def ways_to_call(it: Function) -> Set[str]:
+    """How code may call a function.
+
+    A method counts as called where `.name(` or `Type::name` stands in code, another function of a type where `Type::name` does (`Self::name`
+    in the file of the type), a function of no type where its name does. Clauses, `use` items and names of modules call nothing.
+    """
+    if not it.type:
+        return {it.name}
+    return {f"{it.type}::{it.name}", f"{it.path} Self::{it.name}", *([f".{it.name}("] if it.is_method else [])}
+
+
+def calls_in(source: Source) -> Set[str]:
+    """What the code of a file calls, or may call."""
+    paths = {f"{first}::{last}" for first, last in re.findall(r"\b(\w+)(?=::(\w+))", source.body)}
+    names = {found[2] for found in re.finditer(r"\b(fn )?(\w+)\b", source.body) if not found[1]}
+    return paths | names | set(re.findall(r"\.\w+\(", source.body)) | {f"{source.path} {it}" for it in paths if it.startswith("Self::")}
+
+
+def uncalled(sources: Sequence[Source]) -> List[str]:
+    """Public functions that nothing calls. (A law is a theorem: nobody has to call it.)"""
+    libraries = [it for it in sources if not it.is_test and not it.path.endswith("/laws.rt")]
+    called = set().union(*map(calls_in, sources))
+    found = [it for source in libraries for it in source.functions() if not ways_to_call(it) & called]
+    return [f"{it} is public, and no test and no other code calls it" for it in found]
+
+
+def without_clause(sources: Sequence[Source], exceptions: Iterable[str]) -> List[str]:
+    """Public functions of libraries that have no clause, each with its file, and the exceptions that are none."""
+    found = [f"{it.path} {it.name}" for source in sources if not source.is_test for it in source.functions() if not it.has_clause]
+    needless = [f"{name} is an exception that is not needed" for name in exceptions if name not in found]
+    return [f"{name} is public and has no clause: any body passes" for name in found if name not in exceptions] + needless

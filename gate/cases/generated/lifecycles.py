@@ -99,12 +99,6 @@ def kept_lines(numbers: Numbers) -> List[str]:
     return run.lines
 
 
-def with_key(line: str, key: str) -> str:
-    fields = line.split("|")
-    fields[2] = key
-    return "|".join(fields)
-
-
 def spoiled(numbers: Numbers, lines: List[str]) -> List[str]:
     """The lines with one dropped, doubled, swapped with another or given another key."""
     if not lines:
@@ -118,7 +112,8 @@ def spoiled(numbers: Numbers, lines: List[str]) -> List[str]:
     elif shape == 2:
         made[at], made[other] = made[other], made[at]
     elif shape == 3 and "|dynamic|" not in made[at]:
-        made[at] = with_key(made[at], str(numbers.below(len(STATIC))))
+        mark, worker, _, rest = made[at].split("|", 3)
+        made[at] = f"{mark}|{worker}|{numbers.below(len(STATIC))}|{rest}"
     elif "|dynamic|" in made[at]:
         head, _, name = made[at].rpartition("|")
         made[at] = head.rpartition("|")[0] + "|" + numbers.one_of([text for _, text in STATIC] + ["[g:1]/[d:1]"]) + "|" + name

@@ -5,10 +5,7 @@ from tables.building import HEADER, answer, fault, stats
 from tables.texts import DEMO_PLAN, TWO_TESTS
 
 STATISTICS_BY_LINES = [
-    stats(),
-    stats(),
-    stats(),
-    stats(),
+    *[stats()] * 4,
     stats(started=1),
     stats(started=2),
     stats(started=2, finished=1, failed=1),
@@ -19,11 +16,7 @@ STATISTICS_BY_LINES = [
 
 
 def record_prefix(length: int) -> Case:
-    """A prefix of the record of two tests.
-
-    One that is shorter than the header has none; one that ends with a line feed is read; in any other the line
-    that is cut is bad.
-    """
+    """A prefix of the record of two tests. Without a header it is refused; where it ends with a line feed it is read; else its last line is bad."""
     prefix = TWO_TESTS[:length]
     name = f"prefix of two tests/{length} bytes"
     if length < len(HEADER):
