@@ -40,7 +40,6 @@ RIGHT = [
     Case("a folder that is one", [b"streams"], b"", b"folder\npipe\n", standard_input=Input.FOLDER),
     Case("streams that are closed", [b"streams"], b"", b"closed\nclosed\n", standard_input=Input.CLOSED, standard_error=Output.CLOSED),
     Case("pieces that come one by one", [b"reads"], b"a" * 200_000, b"True\n", standard_input=Input.PIECES),
-    Case("a pipe that is filled at once", [b"reads"], b"a" * 200_000, b"False\n"),
     Case("an input that stays open", [b"first"], b"ab", b"a", standard_input=Input.OPEN),
     *[failing(f"output {kind.name}", standard_output=kind) for kind in (Output.CLOSED, Output.FULL, Output.BROKEN_PIPE)],
     Case("an error to a full device", [b"refuse"], b"", status=2, standard_error=Output.FULL),
@@ -98,6 +97,3 @@ class OfRows(unittest.TestCase):
     def test_right(self):
         wanted = [("title, one", "a b", "text\nmore␊lines"), ("title, two", "", "a|b text\n c"), "X; y", "X; y"]
         self.assertEqual(wanted, self.made(TABLE))
-
-    def test_wrong(self):
-        self.assertRaises(KeyError, self.made, TABLE.replace("[pair]", "[pairs]"))

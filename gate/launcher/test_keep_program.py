@@ -65,9 +65,6 @@ class Renewed(unittest.TestCase):
         self.assertEqual((self.it.renew().output, self.it.made()), (b"bin/ is as it was\n", first[1]))
         other = Keeper(self)
         self.assertEqual((other.renew(), other.made()), first)
-        other.write("crates/tk_low/src/lib.rt", "new\n")
-        other.build()
-        self.assertRegex(other.renew().output, rb"\Abin/PROVED-WITH: [^\n]*\n\Z")
 
     def check_refused(self, status: int, line: bytes, path: str = os.environ["PATH"]) -> None:
         ran = self.it.renew(path)

@@ -6,6 +6,7 @@ import html
 import json
 import os
 import re
+from operator import itemgetter
 from pathlib import Path
 
 from fixtures import PROGRAM, TOP, WithProgram, folder, needs, parameterized, run, write
@@ -58,18 +59,14 @@ def columns(*names):
     return lambda data: [[row[data["columns"].index(name)] for name in names] for row in data["executions"]]
 
 
-def of_page(key):
-    return lambda data: data[key]
-
-
 ONE = nodes("T 1")
 ONE_RUN = ONE + events("1 1 5 start", "1 1 7 finish|ok")
 DATA = [
-    ("no unit", ONE_RUN, [], of_page("unit"), 0),
-    ("milliseconds", ONE_RUN, ["--unit", "milliseconds"], of_page("unit"), 1_000_000),
+    ("no unit", ONE_RUN, [], itemgetter("unit"), 0),
+    ("milliseconds", ONE_RUN, ["--unit", "milliseconds"], itemgetter("unit"), 1_000_000),
     (
         *("a test with a test below it", nodes("B b", "T b/1") + events("1 1 0 start", "1 2 3 start", "1 2 5 finish|ok", "1 1 9 finish|ok"), []),
-        *(of_page("slowest"), [[1, "9"], [0, "2"]]),
+        *(itemgetter("slowest"), [[1, "9"], [0, "2"]]),
     ),
     ("a finish on another worker", ONE + events("1 1 5 start", "3 1 7 finish|ok"), [], columns("worker", "worker_of_end", "end"), [[1, 3, 2]]),
     (
@@ -81,7 +78,7 @@ DATA = [
         *("entries", ONE + events("1 1 5 start", "1 1 6 report|a|b|c|d", "1 1 6 report", "1 1 7 finish|ok", "1 1 8 report|e|f"), []),
         *(columns("entries"), [[[["a", "b", "c", "d"], []]]]),
     ),
-    ("locks", holding(ONE_RUN, "1 R a\\pb c", "1 W db"), [], of_page("descriptors"), [["T", "[engine:e]/[x:1]", "", False, ["R a|b c", "W db"]]]),
+    ("locks", holding(ONE_RUN, "1 R a\\pb c", "1 W db"), [], itemgetter("descriptors"), [["T", "[engine:e]/[x:1]", "", False, ["R a|b c", "W db"]]]),
 ]
 """What the data of a page have: the name, the record, the words, what is looked at, and what it has to be."""
 
@@ -99,11 +96,6 @@ class Page(WithProgram):
     def drawn(self, record, *words, program=PROGRAM):
         return run([TIMELINE, *words], record.encode(), env={**os.environ, "PROGRAM": program})
 
-    def test_refusals(self):
-        """The program's line and status are handed on, and no page is written."""
-        ran = self.drawn(MIXED[:-1])
-        self.assertEqual((ran.status, ran.output, ran.error), (2, b"", b"testkit: line 26 is bad\n"))
-
     @parameterized(["timeline", "trace", "from-open-test-reporting"])
     def test_folder(self, tool):
         """Standard input is a folder, at which Python itself would end with 1."""
@@ -112,7 +104,10 @@ class Page(WithProgram):
         ran = run([f"{TOP}/tools/{tool}"], stdin=opened)
         self.assertEqual((ran.status, ran.output, ran.error), (70, b"", f"tools/{tool}: standard input is a folder\n".encode()))
 
-    def test_words(self):
+    def test_refusals(self):
+        """The program's line and status are handed on, and no page is written."""
+        ran = self.drawn(MIXED[:-1])
+        self.assertEqual((ran.status, ran.output, ran.error), (2, b"", b"testkit: line 26 is bad\n"))
         ran = self.drawn(MIXED, "/none.record")
         self.assertEqual((ran.status, ran.output, ran.error.count(b"\n")), (70, b"", 1), ran)
         ran = self.drawn(MIXED, "--unit", "hours")

@@ -16,7 +16,7 @@ STATISTICS_BY_LINES = [
 
 
 def record_prefix(length: int) -> Case:
-    """A prefix of the record of two tests. Without a header it is refused; where it ends with a line feed it is read; else its last line is bad."""
+    """A prefix of the record of two tests: without a header it is refused, and so is one whose last line is cut."""
     prefix = TWO_TESTS[:length]
     name = f"prefix of two tests/{length} bytes"
     if length < len(HEADER):
