@@ -27,22 +27,15 @@ def copy_without(top: str, to: str) -> Tuple[Dict[str, List[str]], List[str]]:
     unknown = []
     for line in Path(f"{top}/{LIST}").read_text(encoding="utf-8").splitlines():
         crate, test = line.split()
-        if leave_out(f"{to}/crates/{crate}/src", test):
+        *modules, name = test.split("::")
+        path = Path(f"{to}/crates/{crate}/src/{'/'.join(modules)}.rt")
+        text, number = re.subn(TEST.format(name), "", path.read_text(encoding="utf-8")) if path.exists() else ("", 0)
+        if number:
+            path.write_text(text, encoding="utf-8")
             left_out.setdefault(crate, []).append(test)
         else:
             unknown.append(line)
     return left_out, unknown
-
-
-def leave_out(sources: str, test: str) -> bool:
-    """Removes a test from the file of its module, and returns whether it was there."""
-    *modules, name = test.split("::")
-    path = Path(f"{sources}/{'/'.join(modules)}.rt")
-    if not path.exists():
-        return False
-    text, number = re.subn(TEST.format(name), "", path.read_text(encoding="utf-8"))
-    path.write_text(text, encoding="utf-8")
-    return number == 1
 
 
 def join(to: str, crates: Sequence[str]) -> str:

@@ -9,7 +9,7 @@ and the page says so. Events of one stamp stand side by side, in the order of th
 The page needs nothing from outside and may fetch nothing. It has a lane for each worker and in it a bar for each execution that
 `./testkit ask executions` answers (the environment variable PROGRAM names another program to ask), and for each start without a finish, up
 to the next mark of its key or the end of the record. An execution of a container is a frame round those below it that its own worker ran
-within it. Of each it shows the locks that its descriptor declares, where the record says them. A gap is the time from a worker's event to the start or skip that is its next event, while no test of this worker runs.
+within it. A gap is the time from a worker's event to the start or skip that is its next event, while no test of this worker runs.
 
 Where the program refuses a record, its line and its status are handed on, and no page is written. The status is 2 after bad words, and
 70, with one line on standard error, where the script itself fails.
