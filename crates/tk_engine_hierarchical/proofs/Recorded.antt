@@ -1,5 +1,6 @@
 -- What the record of a run says, by what its units emit.
 use Rattle.std.proofs.Common.{◌≡◌, ◌<◌, ◌+◌, ◌==◌, ◌&&◌, ◌||◌, not, nat_eq, nat_lt, ℕ, zero, suc}
+use Rattle.std.proofs.lemmas.List.Folds.{list_any-append}
 use Rattle.std.proofs.Common.{◌⊎◌, inl, inr, ⊎_elim, Bool, true, false, cond, if◌then◌else◌, List}
 use Rattle.std.proofs.Common.{[], ◌∷◌, ◌++◌, length, filter, Some, slice_get, All, refl, sym, ap}
 use Rattle.std.proofs.Common.{ap₂, ◌∙◌, subst, append_assoc, arith, tests}
@@ -34,7 +35,7 @@ use Rattle.tk_engine_hierarchical.specs.Laws.{FollowsPlan, HasOutcomes, HasTurn,
 use Rattle.tk_engine_unit_events.specs.Shapes.{HavePlaces, IsInUnit, ShapeView, frame, may_emit}
 use Rattle.tk_engine_hierarchical.specs.StaticSteps.{FitsPlan}
 use Rattle.tk_engine_unit_events.specs.Units.{StepsAs}
-use Rattle.tk_engine_unit_events.proofs.Played.{any-append, any_kept, covered_by}
+use Rattle.tk_engine_unit_events.proofs.Played.{any_kept, covered_by}
 use Rattle.tk_base.proofs.Lists.{get_below}
 use Rattle.std.proofs.lemmas.Bool.{and_parts, or_cases, or_left, or_right}
 use Rattle.tk_plan_laws.proofs.Lists.{zero_or}
@@ -86,22 +87,22 @@ any_after : (kind : Kind) (key w : ℕ) (l more : List Event)
     → has_event kind key (entries_by w (l ++ more)) ≡ true
 any_after kind key w l more h =
     ap (list_any (is_event kind key)) (map-append (entry_by w) l more)
-    ∙ any-append (is_event kind key) (entries_by w l) (entries_by w more)
+    ∙ list_any-append (is_event kind key) (entries_by w l) (entries_by w more)
     ∙ or_right (has_event kind key (entries_by w l)) (has_event kind key (entries_by w more)) h
 
 any_in : (kind : Kind) (key : ℕ) (a m b : List Entry) → has_event kind key m ≡ true
     → has_event kind key (a ++ m ++ b) ≡ true
 any_in kind key a m b h =
-    any-append (is_event kind key) (a ++ m) b
+    list_any-append (is_event kind key) (a ++ m) b
     ∙ or_left (has_event kind key (a ++ m)) (has_event kind key b)
-    (any-append (is_event kind key) a m ∙ or_right (has_event kind key a) (has_event kind key m) h)
+    (list_any-append (is_event kind key) a m ∙ or_right (has_event kind key a) (has_event kind key m) h)
 
 any_first : (kind : Kind) (key : ℕ) (a m b : List Entry) → has_event kind key a ≡ true
     → has_event kind key (a ++ m ++ b) ≡ true
 any_first kind key a m b h =
-    any-append (is_event kind key) (a ++ m) b
+    list_any-append (is_event kind key) (a ++ m) b
     ∙ or_left (has_event kind key (a ++ m)) (has_event kind key b)
-    (any-append (is_event kind key) a m ∙ or_left (has_event kind key a) (has_event kind key m) h)
+    (list_any-append (is_event kind key) a m ∙ or_left (has_event kind key a) (has_event kind key m) h)
 
 -- how often a unit was drawn
 abbrev drawn_by : ℕ → List ℕ → ℕ

@@ -7,6 +7,7 @@ use Rattle.std.specs.List.{list_any}
 use Rattle.std.specs.Prelude.{Ok}
 use Rattle.std.proofs.lemmas.Bool.{or_cases, or_left, or_right}
 use Rattle.std.proofs.lemmas.List.{map-append}
+use Rattle.std.proofs.lemmas.List.Folds.{list_any-append}
 use Rattle.std.proofs.lemmas.List.Elements.{All-nil, All-cons, All-append}
 use Rattle.std.proofs.lemmas.Option.{same_Some}
 use Rattle.tk_ids.specs.IdText.{SegmentView}
@@ -30,16 +31,6 @@ use Rattle.tk_engine_unit_events.specs.UnitSteps.{publishes}
 use Rattle.tk_engine_unit_events.specs.Units.{StepsAs, HasPlayed}
 use Rattle.tk_query_lifecycle.proofs.IdMapLemmas.{at_id}
 
-or_assoc : (a b c : Bool) → (a || (b || c)) ≡ ((a || b) || c)
-or_assoc true b c = refl
-or_assoc false b c = refl
-
-pub any-append : {A : Type 0} (p : A → Bool) (xs ys : List A)
-    → list_any p (xs ++ ys) ≡ (list_any p xs || list_any p ys)
-any-append p [] ys = refl
-any-append p (x ∷ xs) ys = ap (λ b. p x || b) (any-append p xs ys)
-    ∙ or_assoc (p x) (list_any p xs) (list_any p ys)
-
 -- ---- events that are kept
 
 pub any_kept : (kind : Kind) (key w : ℕ) (l more : List Event)
@@ -47,7 +38,7 @@ pub any_kept : (kind : Kind) (key w : ℕ) (l more : List Event)
     → has_event kind key (entries_by w (l ++ more)) ≡ true
 any_kept kind key w l more h =
     ap (list_any (is_event kind key)) (map-append (entry_by w) l more)
-    ∙ any-append (is_event kind key) (entries_by w l) (entries_by w more)
+    ∙ list_any-append (is_event kind key) (entries_by w l) (entries_by w more)
     ∙ or_left (has_event kind key (entries_by w l)) (has_event kind key (entries_by w more)) h
 
 is_here : (kind : Kind) (key w : ℕ) (e : Event) → e.kind ≡ kind → e.key ≡ key
@@ -62,7 +53,7 @@ pub event_here : (kind : Kind) (key w : ℕ) (l : List Event) (e : Event) → e.
     → e.key ≡ key → has_event kind key (entries_by w (l ++ e ∷ [])) ≡ true
 event_here kind key w l e k same =
     ap (list_any (is_event kind key)) (map-append (entry_by w) l (e ∷ []))
-    ∙ any-append (is_event kind key) (entries_by w l) (entry_by w e ∷ [])
+    ∙ list_any-append (is_event kind key) (entries_by w l) (entry_by w e ∷ [])
     ∙ or_right (has_event kind key (entries_by w l)) (is_event kind key (entry_by w e) || false)
     (or_left (is_event kind key (entry_by w e)) false (is_here kind key w e k same))
 

@@ -2,6 +2,7 @@
 use Rattle.std.proofs.Common.{◌≡◌, Bool, true, false, not, cond, ◌&&◌, ◌||◌, List, [], ◌∷◌, filter, refl, sym, ap, ap₂, ◌∙◌, ⊎_elim}
 use Rattle.std.specs.List.{list_any}
 use Rattle.std.proofs.lemmas.Bool.{cases_Bool, or_left, true≢false}
+use Rattle.tk_base.proofs.Truth.{or-false}
 use Rattle.tk_plan_laws.specs.Listening.{precedes}
 
 -- a test that passes only where another does
@@ -47,10 +48,6 @@ preceded e l (x ∷ xs) h a =
       | true ↦ (λ k m. cc)
       | false ↦ elim (e x) as (λ c. (c || precedes e l xs) ≡ true → list_any l xs ≡ true → (c || list_any e xs) ≡ true) [ true ↦ (λ k m. refl) | false ↦ (λ k m. more k m) ]
     ] h a
-
-pub or-false : (b : Bool) → (b || false) ≡ b
-or-false true = refl
-or-false false = refl
 
 module _ {A : Type 0} (s f c : A → Bool) where
   -- each element that passes c comes after one that passes s, and after none that passes f; such ones have come before, where the first argument is true, or the second

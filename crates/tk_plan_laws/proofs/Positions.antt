@@ -3,12 +3,10 @@ use Rattle.std.proofs.Common.{◌≡◌, ◌<◌, ℕ, zero, suc, Bool, true, fa
 use Rattle.std.specs.List.{list_any}
 use Rattle.std.proofs.lemmas.Bool.{true≢false, and_from, and_parts, cases_Bool, or_cases, or_left, or_right}
 use Rattle.std.proofs.lemmas.Option.{same_Some, none-some, slice_get-map}
-use Rattle.tk_plan_laws.proofs.Orders.{Only, any_kept, encloses, or-false}
+use Rattle.std.proofs.Math.Bool.{or_assoc}
+use Rattle.tk_base.proofs.Truth.{or-false}
+use Rattle.tk_plan_laws.proofs.Orders.{Only, any_kept, encloses}
 use Rattle.tk_plan_laws.specs.Listening.{is_followed, precedes}
-
-or_joins : (a b c : Bool) → (a || (b || c)) ≡ ((a || b) || c)
-or_joins true b c = refl
-or_joins false b c = refl
 
 -- an element that passes the test
 pub record Found {A : Type 0} (p : A → Bool) (xs : List A) : Type 0 where
@@ -98,7 +96,7 @@ enclosed_at s f c a b (y ∷ ys) zero x h at is =
     let here = (and_parts (not (c y) || (a && not b)) (encloses s f c (a || s y) (b || f y) ys) h).0 in
     ap₂ (λ d e. d && not e) (or-false a) (or-false b) ∙ (sym (ap (λ d. not d || (a && not b)) (ap c (same_Some y x at) ∙ is)) ∙ here)
 enclosed_at s f c a b (y ∷ ys) (suc m) x h at is =
-    ap₂ (λ d e. d && not e) (or_joins a (s y) (list_any s (take m ys))) (or_joins b (f y) (list_any f (take m ys)))
+    ap₂ (λ d e. d && not e) (sym (or_assoc a (s y) (list_any s (take m ys)))) (sym (or_assoc b (f y) (list_any f (take m ys))))
     ∙ enclosed_at s f c (a || s y) (b || f y) ys m x (and_parts (not (c y) || (a && not b)) (encloses s f c (a || s y) (b || f y) ys) h).1 at is
 
 pub any_dropped : {A : Type 0} (g : A → Bool) (xs : List A) → list_any g (drop 1 xs) ≡ true → list_any g xs ≡ true
