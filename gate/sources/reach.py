@@ -2,7 +2,7 @@
 
 A contract has clauses and ghost members. Those of a public function, trait or type count, those of an impl whose trait and types are public,
 and all of an example, which shows what authors write. They reach what they name; a definition reaches what its text names, and a type its
-`Model` and the types of its fields. What no contract reaches stands in `specs/steps/` of its crate, and nothing else does.
+`Model` and the types of its fields. What no contract reaches stands in `specs/steps` of its crate, a file or a folder, and nothing else does.
 """
 
 import re
