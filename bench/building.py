@@ -53,7 +53,7 @@ def apart(function: Callable[..., None], *words) -> None:
 
 
 def build_program(folder: str, line: str, source: str, input_path: str = os.devnull) -> str:
-    """Copies the crates, adds a program with this line of crates.txt and this source of `bench/`, proves, builds and runs it; returns its path.
+    """Copies the crates, adds a program with this line of crates.txt and this source, proves, builds and runs it; returns its path.
 
     It begins with the libraries that `rt` has kept of these sources on this machine.
     """

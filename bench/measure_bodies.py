@@ -15,7 +15,8 @@ MODES = {"each a unit": "concurrent", "one unit": "same_thread"}
 
 def measure(folder: str) -> None:
     for mode in MODES.values():
-        building.apart(inputs.write_plan, f"{folder}/{mode}", lambda mode=mode: dict(children=[inputs.test("t", str(it), mode=mode) for it in range(TESTS)]))
+        members = lambda mode=mode: dict(children=[inputs.test("t", str(it), mode=mode) for it in range(TESTS)])
+        building.apart(inputs.write_plan, f"{folder}/{mode}", members)
     program = building.build_program(folder, LINE, "bodies/main.rt.in", f"{folder}/concurrent")
     for shape, mode in MODES.items():
         bodies, scripted = building.take([[program, "bodies"], [program]], f"{folder}/{mode}", folder)

@@ -1,6 +1,6 @@
 """What the modules of the gate share: the proved program, commands, a folder, and tables.
 
-A module `test_NAME.py` has classes of `unittest.TestCase`. `gate/run` runs it, and counts its tests: `@parameterized` makes one of each row.
+A module `test_NAME.py` has classes of `unittest.TestCase`. `gate/run` counts its tests: `@parameterized` makes one of each row.
 """
 
 import contextlib

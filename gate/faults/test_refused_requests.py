@@ -292,7 +292,7 @@ MEMORY, OF_A_PLAN = refused_with(OUT_OF_MEMORY), refused_memory_of_a_run
 
 
 def example(name: str, is_passed: bool, rule: Callable, ended: Ended, first: Ended = ORDINARY, **how):
-    """A sweep, its runs (the ordinary one, one in which a request is refused, and one that meets no refusal), and whether they are right."""
+    """A sweep, its runs (the ordinary one, one with a refusal, and one that meets none), and whether they are right."""
     return name, Sweep(name, "memory", [], b"", rule, **how), [first, ended, first], is_passed
 
 

@@ -28,7 +28,8 @@ class OfRecordAssert(Compiled):
         os.mkdir(scratch)
         properties = {"java.io.tmpdir": scratch, "testkit.real": REAL, "testkit.record": f"{self.out}/{name}.record"}
         command = [*java.COMMAND, *(f"-D{key}={value}" for key, value in properties.items()), "-jar", java.CONSOLE, *words]
-        command += ["-cp", ":".join(filter(None, [self.classes.folder, self.service, java.KIT])), "--disable-banner", "--disable-ansi-colors"]
+        classes = ":".join(filter(None, [self.classes.folder, self.service, java.KIT]))
+        command += ["-cp", classes, "--disable-banner", "--disable-ansi-colors"]
         ran = fixtures.run(command, seconds=java.SECONDS, env={**os.environ, "LC_ALL": locale})
         self.assertEqual(ran.status, 0, ran.output.decode(errors="replace"))
         lines = self.lines(f"{name}.record")

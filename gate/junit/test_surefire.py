@@ -27,12 +27,7 @@ SETTINGS = [
     ("two executions in Maven's process", 0, "true", 2, DOCUMENTED, ["run-#-#.record"] * 2),
     ("two executions in Maven's process at one path", 0, "true", 2, "run.record", ["run.#.record", "run.record"]),
 ]
-"""A setting's forks and whether they are used again, how often its goal runs, and the records that have to be there but for their digits."""
-
-
-def of_build(name):
-    """A file of the build, with braces for what is filled in."""
-    return read(f"{java.HERE}/surefire/{name}")
+"""A setting's forks, whether they are used again, how often its goal runs, the path, and the records' names but for their digits."""
 
 
 def version_of(name):
@@ -71,7 +66,7 @@ class OfSurefire(unittest.TestCase):
         write_repository(Path(shutil.make_archive(f"{cls.top}/listener", "zip", f"{cls.top}/listener")).read_bytes(), cls.top)
         os.makedirs(f"{cls.top}/target/test-classes")
         for name in CLASSES:
-            fixtures.write(f"{cls.top}/{name}Test.java", of_build("Test.java").format(name))
+            fixtures.write(f"{cls.top}/{name}Test.java", read(f"{java.HERE}/surefire/Test.java").format(name))
         java.Classes(f"{cls.top}/target/test-classes").compile(glob.glob(f"{cls.top}/*.java"))
         # (Maven writes beside what it reads)
         shutil.copytree(REPOSITORY, f"{cls.top}/repository", copy_function=os.symlink)
@@ -87,7 +82,7 @@ class OfSurefire(unittest.TestCase):
             "surefire": surefire,
         }
         lines = {it: lines_of_document(it) for it in ("repositories", "dependency", "systemPropertyVariables")}
-        text = of_build("pom.xml").format(forks=forks, is_reused=is_reused, **lines, **versions)
+        text = read(f"{java.HERE}/surefire/pom.xml").format(forks=forks, is_reused=is_reused, **lines, **versions)
         fixtures.write(f"{self.top}/pom.xml", text.replace("/usr/share/testkit/maven", f"{self.top}/maven").replace(DOCUMENTED, path))
         for record in glob.glob(f"{self.top}/target/*.record"):
             os.remove(record)

@@ -90,8 +90,8 @@ def unread_words(tree: Tree, sources: Sequence[Source]) -> List[str]:
 def ways_to_call(it: Function) -> Set[str]:
     """How code may call a function.
 
-    A method counts as called where `.name(` or `Type::name` stands in code, another function of a type where `Type::name` does (`Self::name`
-    in the file of the type), a function of no type where its name does. Clauses, `use` items and names of modules call nothing.
+    A method is called where `.name(` or `Type::name` stands in code, another function of a type where `Type::name` does (`Self::name` in
+    the file of the type), a function of no type where its name does. Clauses, `use` items and names of modules call nothing.
     """
     if not it.type:
         return {it.name}

@@ -78,7 +78,10 @@ DATA = [
         *("entries", ONE + events("1 1 5 start", "1 1 6 report|a|b|c|d", "1 1 6 report", "1 1 7 finish|ok", "1 1 8 report|e|f"), []),
         *(columns("entries"), [[[["a", "b", "c", "d"], []]]]),
     ),
-    ("locks", holding(ONE_RUN, "1 R a\\pb c", "1 W db"), [], itemgetter("descriptors"), [["T", "[engine:e]/[x:1]", "", False, ["R a|b c", "W db"]]]),
+    (
+        *("locks", holding(ONE_RUN, "1 R a\\pb c", "1 W db"), []),
+        *(itemgetter("descriptors"), [["T", "[engine:e]/[x:1]", "", False, ["R a|b c", "W db"]]]),
+    ),
 ]
 """What the data of a page have: the name, the record, the words, what is looked at, and what it has to be."""
 

@@ -23,7 +23,6 @@ SPINE_RECORD = record(*lines_of("SPINE_RECORD"))
 """A container on the spine within the root: its finish comes after all units, with its own stamp."""
 
 
-
 def locks(*words: str) -> str:
     """The member with these locks, each a mode and a key."""
     listed = (word.partition(" ") for word in words)
