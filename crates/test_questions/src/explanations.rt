@@ -94,7 +94,7 @@ fn is_near(
     position: usize,
     lacks: &str,
 ) -> Option<bool> {
-    let found = nearest(events, 0, condition);
+    let found = nearest(alloc, events, 0, condition).ok()?;
     let view = events.record().entry(position)?;
     let text = lacking_text(alloc, events.record(), condition, &view).ok()?;
     Some(found.len() == 3 && found.get(index) == Some(position) && text.as_str() == lacks)
@@ -106,7 +106,8 @@ fn are_near(alloc: Global, record: &Record) -> Option<bool> {
     let first = is_near(alloc, &events, &condition, 0, 2, "failed(bang)")?;
     let second = is_near(alloc, &events, &condition, 1, 1, "failed(bang)")?;
     let third = is_near(alloc, &events, &condition, 2, 3, "failed(bang), id(t:1)")?;
-    Some(first && second && third && nearest(&events, 4, &condition).len() == 1)
+    let after = nearest(alloc, &events, 4, &condition).ok()?;
+    Some(first && second && third && after.len() == 1)
 }
 
 // Whether the failure with its message lacks two parts of four, and the last event is a success.

@@ -203,13 +203,16 @@ fn explain(
 {
     let found = exclusive(alloc, events, writers, readers)?;
     let text = format!(in alloc; "{found}")?;
-    let mut rows = Vec::new(alloc);
-    rows.push(Row::Line(Text::from(text)))?;
-    add_below(alloc, &mut rows, events, writers, readers, found)?;
-    Ok(Explanation {
-        is_yes: found.is_yes(),
-        rows,
-    })
+    let mut explanation = Explanation::new(alloc, found.is_yes(), text)?;
+    add_below(
+        alloc,
+        &mut explanation.rows,
+        events,
+        writers,
+        readers,
+        found,
+    )?;
+    Ok(explanation)
 }
 
 /// Writes whether executions that conflict kept away from each other, as [`exclusive`] answers it.

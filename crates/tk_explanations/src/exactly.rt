@@ -9,7 +9,6 @@ use crate::faults::ExplainFault;
 use crate::match_rows::{add_condition, add_found, add_lacking};
 use crate::rows::{Note, Row};
 use std::alloc::{AllocError, Global};
-use tk_ids::Text;
 use tk_query::{Exact, holds_at, match_exactly};
 use tk_query_conditions::Condition;
 use tk_record::Events;
@@ -81,13 +80,9 @@ fn explain(
 {
     let answer = match_exactly(alloc, events, conditions)?;
     let text = format!(in alloc; "{answer}")?;
-    let mut rows = Vec::new(alloc);
-    rows.push(Row::Line(Text::from(text)))?;
-    add_below(&mut rows, alloc, events, conditions, answer)?;
-    Ok(Explanation {
-        is_yes: answer.is_yes(),
-        rows,
-    })
+    let mut explanation = Explanation::new(alloc, answer.is_yes(), text)?;
+    add_below(&mut explanation.rows, alloc, events, conditions, answer)?;
+    Ok(explanation)
 }
 
 /// Writes whether each event has a condition that holds of it, as [`match_exactly`] answers it.

@@ -1,5 +1,5 @@
 //! Explanations as rows, written in pieces.
-ghost use Rattle.std.specs.Prelude.{◌≡◌, ◌++◌, ◌∷◌, Some, true, codes, slice_get, IsErrOf, OnErr, OnOk};
+ghost use Rattle.std.specs.Prelude.{◌≡◌, ◌++◌, ◌∷◌, [], Some, true, codes, slice_get, string_bytes, IfOk, IsErrOf, OnErr, OnOk};
 ghost use Rattle.std.specs.Fmt.{decimal};
 ghost use Rattle.tk_query.specs.AnswerTexts.{blank};
 ghost use Rattle.std.specs.Io.KnownBytes.{Appends};
@@ -7,12 +7,14 @@ ghost use Rattle.tk_streams.specs.Pieces.{AddsTo};
 ghost use Rattle.tk_streams.specs.Stream.{AppendsPrefix};
 ghost use Rattle.tk_record.specs.Record.{entry_of_view};
 ghost use Rattle.tk_explanations.specs.steps.{IsWritten};
+ghost use Rattle.tk_explanations.specs.declared.rows.Row.TheVariants.{Line};
 ghost use Rattle.tk_explanations.specs.Rows.{event_row, note_text, row_line, row_text, rows_text, span_text, writers_text};
 
 use crate::faults::ExplainFault;
 use crate::pieces::{put_descriptor_of, put_event_text, put_number};
 use crate::rows::{Note, Row, Writers};
 use crate::sentence_texts::put_sentence;
+use std::alloc::{AllocError, Global};
 use tk_ids::Text;
 use tk_query::Execution;
 use tk_record::{EntryView, Record};
@@ -222,6 +224,24 @@ pub(crate) struct Explanation {
 }
 
 impl Explanation {
+    /// Begins with the line of the answer.
+    ///
+    /// # Errors
+    /// `AllocError` where a request for memory is refused.
+    pub(crate) fn new(
+        alloc: Global,
+        is_yes: bool,
+        answer: String,
+    ) -> Result<Explanation, AllocError>
+        ensures yes { IfOk result (λ explanation. explanation.is_yes ≡ is_yes) }
+        ensures line { IfOk result (λ explanation.
+            explanation.rows.items ≡ Line (string_bytes answer) ∷ []) }
+    {
+        let mut rows = Vec::new(alloc);
+        rows.push(Row::Line(Text::from(answer)))?;
+        Ok(Explanation { is_yes, rows })
+    }
+
     /// Writes the rows, a line each, and gives whether the answer is a yes.
     ///
     /// # Errors

@@ -14,7 +14,6 @@ use crate::faults::ExplainFault;
 use crate::match_rows::{add_condition, add_found, add_nearest};
 use crate::rows::{Note, Row};
 use std::alloc::{AllocError, Global};
-use tk_ids::Text;
 use tk_query::{InOrder, find, match_in_order};
 use tk_query_conditions::Condition;
 use tk_query_nearest::nearest;
@@ -92,7 +91,7 @@ fn add_stuck(
     let condition = &conditions[number];
     let found = positions_in_turn(alloc, events, &conditions[..number])?;
     let last_found = found.as_slice().last().copied();
-    let near = nearest(events, after(events, last_found), condition);
+    let near = nearest(alloc, events, after(events, last_found), condition)?;
     add_found(rows, alloc, conditions, found.as_slice())?;
     add_condition(rows, alloc, number, condition)?;
     add_early(rows, last_found, last_fit(events, condition))?;
@@ -126,13 +125,9 @@ fn explain(
 {
     let answer = match_in_order(alloc, events, conditions)?;
     let text = format!(in alloc; "{answer}")?;
-    let mut rows = Vec::new(alloc);
-    rows.push(Row::Line(Text::from(text)))?;
-    add_below(&mut rows, alloc, events, conditions, &answer)?;
-    Ok(Explanation {
-        is_yes: answer.is_yes(),
-        rows,
-    })
+    let mut explanation = Explanation::new(alloc, answer.is_yes(), text)?;
+    add_below(&mut explanation.rows, alloc, events, conditions, &answer)?;
+    Ok(explanation)
 }
 
 /// Writes whether conditions hold in turn, as [`match_in_order`] answers it.

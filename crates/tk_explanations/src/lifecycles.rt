@@ -139,13 +139,9 @@ fn explain(alloc: Global, record: &Record) -> Result<Explanation, AllocError>
 {
     let answer = lifecycle(alloc, record)?;
     let text = format!(in alloc; "{answer}")?;
-    let mut rows = Vec::new(alloc);
-    rows.push(Row::Line(Text::from(text)))?;
-    add_rows(alloc, &mut rows, record, answer)?;
-    Ok(Explanation {
-        is_yes: matches!(answer, Lifecycle::Kept),
-        rows,
-    })
+    let mut explanation = Explanation::new(alloc, matches!(answer, Lifecycle::Kept), text)?;
+    add_rows(alloc, &mut explanation.rows, record, answer)?;
+    Ok(explanation)
 }
 
 /// Writes whether a record keeps the lifecycle that a listener of an engine may rely on, as

@@ -88,13 +88,9 @@ fn explain(alloc: Global, events: &Events<'_>) -> Result<Explanation, AllocError
 {
     let answer = locks(alloc, events)?;
     let text = format!(in alloc; "{answer}")?;
-    let mut rows = Vec::new(alloc);
-    rows.push(Row::Line(Text::from(text)))?;
-    add_below(alloc, &mut rows, events, &answer)?;
-    Ok(Explanation {
-        is_yes: answer.is_yes(),
-        rows,
-    })
+    let mut explanation = Explanation::new(alloc, answer.is_yes(), text)?;
+    add_below(alloc, &mut explanation.rows, events, &answer)?;
+    Ok(explanation)
 }
 
 /// Writes whether executions that conflict over a lock kept away from each other, as [`locks`]

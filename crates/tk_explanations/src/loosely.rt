@@ -13,7 +13,6 @@ use crate::faults::ExplainFault;
 use crate::match_rows::{add_condition, add_found, add_nearest};
 use crate::rows::Row;
 use std::alloc::{AllocError, Global};
-use tk_ids::Text;
 use tk_query::{Loose, first_fit, match_loosely};
 use tk_query_conditions::Condition;
 use tk_query_nearest::nearest;
@@ -79,7 +78,7 @@ fn add_missing(
 {
     let condition = &conditions[number];
     add_condition(rows, alloc, number, condition)?;
-    let near = nearest(events, 0, condition);
+    let near = nearest(alloc, events, 0, condition)?;
     add_nearest(rows, alloc, events.record(), condition, &near)
 }
 
@@ -110,13 +109,9 @@ fn explain(
 {
     let answer = match_loosely(alloc, events, conditions)?;
     let text = format!(in alloc; "{answer}")?;
-    let mut rows = Vec::new(alloc);
-    rows.push(Row::Line(Text::from(text)))?;
-    add_below(&mut rows, alloc, events, conditions, answer)?;
-    Ok(Explanation {
-        is_yes: answer.is_yes(),
-        rows,
-    })
+    let mut explanation = Explanation::new(alloc, answer.is_yes(), text)?;
+    add_below(&mut explanation.rows, alloc, events, conditions, answer)?;
+    Ok(explanation)
 }
 
 /// Writes whether each condition holds of some event, as [`match_loosely`] answers it.

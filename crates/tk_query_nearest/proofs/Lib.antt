@@ -3,6 +3,7 @@ pub mod MemberLemmas
 pub mod PartLemmas
 pub mod HoldingLemmas
 pub mod WritingLemmas
+pub mod CountedLemmas
 pub mod TakenLemmas
 pub mod RuledOutLemmas
 pub mod ViewLemmas

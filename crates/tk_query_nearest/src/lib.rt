@@ -2,6 +2,8 @@
 #![tactic(auto)]
 
 mod candidates;
+mod counted;
+mod distances;
 mod lacking;
 pub mod laws;
 mod parts;

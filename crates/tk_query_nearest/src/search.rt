@@ -1,10 +1,11 @@
 //! Finding the events that come nearest to a condition.
+ghost use Rattle.std.specs.Prelude.{IfOk};
 ghost use Rattle.tk_query_conditions.specs.CondOf.{cond_of};
 ghost use Rattle.tk_query_nearest.specs.Nearness.{IsNearest};
 
 use crate::candidates::{Candidate, Candidates, Nearest};
-use crate::parts::distance_at;
-use crate::ruled_out::RuledOut;
+use crate::distances::Distances;
+use std::alloc::{AllocError, Global};
 use tk_query_conditions::Condition;
 use tk_record::Events;
 
@@ -13,20 +14,28 @@ use tk_record::Events;
 ///
 /// An event comes nearer than another one where fewer parts of the condition don't hold of it, or
 /// as many, and its position is lower.
-pub fn nearest(events: &Events, first: usize, condition: &Condition) -> Nearest
-    ensures { IsNearest events.now first (cond_of condition.now) result }
+///
+/// # Errors
+/// `AllocError` where a request for memory is refused.
+pub fn nearest(
+    alloc: Global,
+    events: &Events,
+    first: usize,
+    condition: &Condition,
+) -> Result<Nearest, AllocError>
+    ensures { IfOk result (λ found. IsNearest events.now first (cond_of condition.now) found) }
 {
     let record = events.record();
-    let ruled_out = RuledOut::of(condition);
+    let mut distances = Distances::new(alloc, condition);
     let mut candidates = Candidates::Empty;
     let mut low = first;
     'events: while let Some(position) = events.flags().first_from(low) {
         let most = candidates.counted_to();
-        let distance = distance_at(record, condition, &ruled_out, position, most);
+        let distance = distances.at(record, condition, position, most)?;
         if candidates.admits(distance) {
             candidates = candidates.with(Candidate { distance, position });
         }
         low = position + 1;
     }
-    Nearest { candidates }
+    Ok(Nearest { candidates })
 }

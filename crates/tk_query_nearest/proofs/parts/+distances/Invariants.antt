@@ -8,7 +8,7 @@ use Rattle.tk_query_nearest.proofs.parts.+distances.Given as goal
 
 abbrev pub invariant-distance_of_all-loop-member : goal.invariant-distance_of_all-loop-member
 invariant-distance_of_all-loop-member l =
-    IsTotal l.«record» (entry_of_view l.event) l.most
+    IsTotal l.counted l.«record» (entry_of_view l.event) l.most
     (conds_from Nothing (take l.member-index l.members)) l.total
 
 abbrev pub invariant-distance_of_any-loop-member : goal.invariant-distance_of_any-loop-member

@@ -3,12 +3,14 @@ use Rattle.std.proofs.lemmas.Bool.{false≢true}
 use Rattle.tk_events.specs.Event.{is_lawful}
 use Rattle.tk_record.specs.Record.{entry_of_view}
 use Rattle.tk_query_conditions.specs.CondOf.{cond_of}
+use Rattle.tk_record.proofs.PickedEntries.{if_ok_then}
+use Rattle.tk_query_nearest.specs.Parts.{missing}
 use Rattle.tk_query_nearest.proofs.RuledOutLemmas.{ruled_out_lacks}
 use Rattle.tk_query_nearest.proofs.ViewLemmas.{none_there, shown_of_all, uncapped, view_there}
-use Rattle.tk_query_nearest.proofs.parts.distance_at.Goals as goal
+use Rattle.tk_query_nearest.proofs.distances.Distances.at.Goals as goal
 
-pub returns-in-Some : goal.returns-in-Some
-returns-in-Some c =
+pub returns-in-Some-clause-value : goal.returns-in-Some-clause-value
+returns-in-Some-clause-value c =
     let r = c.args.«record».now in
     let condition = cond_of c.args.condition.now in
     let event = c.in-Some.event in
@@ -21,19 +23,23 @@ returns-in-Some c =
     (omega (
       arith,
       ruled_out_lacks r (entry_of_view event) lawful condition,
-      c.by.ensures condition c.requires,
+      c.by.ensures condition c.requires.ruled_out,
     )))
 
-pub returns-in-Some-2 : goal.returns-in-Some-2
-returns-in-Some-2 c =
+pub returns-in-Some-2-clause-value : goal.returns-in-Some-2-clause-value
+returns-in-Some-2-clause-value c =
     let r = c.args.«record».now in
-    view_there r (cond_of c.args.condition.now) r.entries c.args.position c.distance_up_to.result
-    c.args.most c.in-Some.event (c.in-Some.ensures.there.0 refl) c.in-Some.ensures.value
-    (uncapped _ _ c.args.most (let fits = c.ranges.most.fits in omega arith)
-    c.distance_up_to.ensures)
+    let condition = cond_of c.args.condition.now in
+    let event = c.in-Some.event in
+    if_ok_then c.of_event.result _ _
+    (λ n value.
+    view_there r condition r.entries c.args.position n c.args.most event
+    (c.in-Some.ensures.there.0 refl) c.in-Some.ensures.value
+    (uncapped n (missing r condition (entry_of_view event)) c.args.most
+    (let fits = c.ranges.most.fits in omega arith) value)) c.of_event.ensures.value
 
-pub returns-in-None : goal.returns-in-None
-returns-in-None c =
+pub returns-in-None-clause-value : goal.returns-in-None-clause-value
+returns-in-None-clause-value c =
     let r = c.args.«record».now in
     none_there r (cond_of c.args.condition.now) r.entries c.args.position 0 c.args.most
     (λ within. absurd (false≢true (c.in-None.ensures.there.1 within))) refl
