@@ -282,9 +282,10 @@ fn split_explain(words: &[String]) -> Option<&[String]>
     let Some((word, rest)) = words.split_first() else {
         return None;
     };
-    match word.as_str() {
-        "explain" => Some(rest),
-        _ => None,
+    if word.as_str() == "explain" {
+        Some(rest)
+    } else {
+        None
     }
 }
 
