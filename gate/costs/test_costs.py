@@ -194,6 +194,7 @@ MANY_PAIRS = lambda: (RECORD + "E|1|0|0|report" + "".join(f"|{number:07}|v" for 
 LONG_IDS = lambda: (OF_A_CONTAINER + "".join(f"N|T|[engine:e]/[t:{number:04}{'v' * 4_000}]|n\n" for number in range(4_000))).encode()
 DESCRIPTORS = lambda: record_of_tests("n" * 200)
 TESTS_OF_AN_ENGINE = lambda: record_of_tests("n" * 170, BEGIN, events("start", "finish|ok"), END)
+FOUR_RUNS_OF_EACH = lambda: record_of_tests("n", BEGIN, 4 * events("start", "finish|ok", keys=range(1, 2_501)), END, count=2_500)
 TESTS_SIDE_BY_SIDE = lambda: record_of_tests("n", BEGIN, END, beside(range(1, 65_001)))
 A_TEST_STILL_RUNS = lambda: record_of_tests("n", BEGIN, events("start"), events("finish|ok", keys=range(1, 65_000)), END)
 ONE_GLOBAL = lambda: held([(60_000, "W", "global")], 60_000, "n" * 200, apart_from_the_last(60_000))
@@ -313,6 +314,7 @@ RARE, OF_NO_COLUMN = 1_000 * "all(failed(boom),name(e)) ", 1_000 * "any(name(x),
 MANY_MEMBERS, ONE_OF_MANY = f"all({','.join(2_000 * ['failed'])})", f"any({'started,' * 12_000}started)"
 TEXT_ATOMS = ["skipped(x{})", "message(x{})", "failed(x{})", "aborted(x{})", "file(x{})", "entry(x{},v)"]
 MANY_TEXTS = f"all({','.join(TEXT_ATOMS[number % 6].format(number) for number in range(2_000))})"
+MANY_NAMES = f"all({','.join('name(x{0}),id(x{0})'.format(number) for number in range(1_000))})"
 FIFTY_START, MOST_START, MANY_START = (count * "started " for count in (50, 99, 10_000))
 LAST_FAILS, TOO_EARLY, LAST_DIFFERS = 49 * "started " + "failed", "failed(boom)" + 49 * " started", 49 * "kind(skip) " + "failed"
 FIFTY_OF_THE_LAST, ONE_OF_THE_LAST = (" ".join(f"all(failed(boom),not(name({it})))" for it in range(count)) for count in (50, 1))
