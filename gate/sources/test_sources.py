@@ -17,7 +17,7 @@ LIMITS = Limits(
     ],
     fewest_wrong_bodies=143,
     fewest_tests=225,
-    most_restated=7,
+    most_restated=4,
 )
 
 

@@ -48,9 +48,6 @@ found_step : (b : Bool) (d : Descriptor) (ds : List Descriptor) (k : ℕ) (id : 
 found_step true d ds k id is never e = absurd (never refl)
 found_step false d ds k id is never e = ap (option_map suc) e
 
-zero_not_suc : (k : ℕ) → 0 ≡ suc k → ⊥
-zero_not_suc k e = absurd (omega (arith, e))
-
 suc_same : (j k : ℕ) → suc j ≡ suc k → j ≡ k
 suc_same j k e = omega (arith, e)
 
@@ -64,7 +61,7 @@ key_found (d ∷ ds) zero id only at =
     (subst (λ x. same_id d.id x ≡ true) same (same_itself d.id))
 key_found (d ∷ ds) (suc k) id only at =
     found_step (same_id d.id id) d ds k id refl
-    (λ e. zero_not_suc k (only 0 (ap (λ x. Some x) (same_is d.id id e))))
+    (λ e. omega (arith, only 0 (ap (λ x. Some x) (same_is d.id id e))))
     (key_found ds k id (λ j h. suc_same j k (only (suc j) h)) at)
 
 -- an id that is not static has no key

@@ -28,9 +28,6 @@ pub on_err : {F A B : Type 0} (r : Result (Unit {0}) F) → OnErr r A → (A →
 on_err (Ok _) a f = tt
 on_err (Err _) a f = f a
 
-pub extends_same : (a b : SenderView) → b ≡ a → Extends a b
-extends_same a b e = ([], ap (λ (s : SenderView). s.sent) e ∙ sym (append-nil a.sent))
-
 pub extends_registered : (a b c : SenderView) (ask : RegisterRequest) (key : ℕ)
     → IsRegisteredAs a b ask (Ok key) → c ≡ b → Extends a c
 extends_registered a b c ask key r e =
@@ -68,16 +65,11 @@ pub if_err : {R F : Type 0} (P : F → Type 0) (r : Result R F) → ((why : F) �
 if_err P (Ok _) f = tt
 if_err P (Err why) f = f why
 
--- what holds holds at `Err`
-pub err_of : {R F A : Type 0} (r : Result R F) → A → OnErr r A
-err_of (Ok _) a = tt
-err_of (Err _) a = a
-
 pub grew_same : (old new : UnitView) → new.sink ≡ old.sink → new.running ≡ old.running
     → new.stamp ≡ old.stamp → new.own_stamp ≡ old.own_stamp → Grew old new
 grew_same old new sink running stamp own =
     record {
-      more = extends_same old.sink new.sink sink;
+      more = ([], ap (λ (s : SenderView). s.sent) sink ∙ sym (append-nil old.sink.sent));
       running = running;
       stamp = stamp;
       own_stamp = own;

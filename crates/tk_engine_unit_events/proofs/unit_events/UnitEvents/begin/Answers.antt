@@ -1,9 +1,9 @@
-use Rattle.std.proofs.Common.{ap, sym, ◌∙◌}
+use Rattle.std.proofs.Common.{[], ap, append-nil, sym, ◌∙◌}
+use Rattle.tk_queue_session.specs.Senders.{SenderView}
 use Rattle.tk_engine_unit_events.specs.Running.{with_ids}
 use Rattle.tk_engine_unit_events.specs.Units.{UnitKeys}
 use Rattle.tk_engine_unit_events.proofs.Played.{played_none}
 use Rattle.tk_engine_unit_events.proofs.UnitStates.{began}
-use Rattle.tk_engine_unit_events.proofs.UnitSteps.{extends_same}
 use Rattle.tk_engine_unit_events.proofs.Taken.{noted_none}
 use Rattle.tk_engine_unit_events.proofs.unit_events.UnitEvents.begin.Goals as goal
 
@@ -27,5 +27,9 @@ invariant_of-result g c =
             c.requires.start (ap (λ (k : UnitKeys). k.first) keys);
         noted = noted_none g.K.UnitRun.unit _ _ c.new-2.ensures.empty;
       },
-      extends_same _ _ (c.requires.start ∙ sym c.requires.since),
+      (
+        [],
+        ap (λ (s : SenderView). s.sent) (c.requires.start ∙ sym c.requires.since)
+            ∙ sym (append-nil _),
+      ),
     )

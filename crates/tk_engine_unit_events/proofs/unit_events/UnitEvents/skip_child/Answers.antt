@@ -12,7 +12,7 @@ use Rattle.tk_engine_unit_events.proofs.UnitStates.{after_emit}
 use Rattle.tk_engine_unit_events.proofs.Taken.{LeavesSame, is_noted, leaves_same}
 use Rattle.tk_engine_unit_events.proofs.Taken.{left_registered, left_same, not_taken, runs_none}
 use Rattle.tk_engine_unit_events.proofs.Taken.{unregistered, unsent}
-use Rattle.tk_engine_unit_events.proofs.UnitSteps.{both_err, err_of, extends_child, extends_more}
+use Rattle.tk_engine_unit_events.proofs.UnitSteps.{both_err, extends_child, extends_more}
 use Rattle.tk_engine_unit_events.proofs.UnitSteps.{grew_registered, grew_same, if_err, if_err_then}
 use Rattle.tk_engine_unit_events.proofs.UnitSteps.{on_err, on_ok, same_view, skipped_child}
 use Rattle.tk_engine_unit_events.proofs.UnitSteps.{stands_same}
@@ -83,7 +83,7 @@ returns-clause-err g c =
 
 pub returns-in_err-key-clause-err : goal.returns-in_err-key-clause-err
 returns-in_err-key-clause-err g c =
-    err_of _ (grew_same _ _
+    if_err _ _ (λ _. grew_same _ _
     (c.in_err-key.ensures.err ∙ ap (λ (v : UnitView). v.sink) c.self.view_is)
     (ap (λ (v : UnitView). v.running) c.self.view_is)
     (ap (λ (v : UnitView). v.stamp) c.self.view_is)

@@ -12,7 +12,7 @@ use Rattle.tk_engine_unit_events.proofs.Registered.{stands_started}
 use Rattle.tk_engine_unit_events.proofs.Taken.{LeavesSame, is_noted, leaves_same}
 use Rattle.tk_engine_unit_events.proofs.Taken.{left_registered, left_same, not_taken, runs_none}
 use Rattle.tk_engine_unit_events.proofs.Taken.{unregistered, unsent}
-use Rattle.tk_engine_unit_events.proofs.UnitSteps.{err_of, extends_child, extends_more}
+use Rattle.tk_engine_unit_events.proofs.UnitSteps.{extends_child, extends_more, if_err}
 use Rattle.tk_engine_unit_events.proofs.UnitSteps.{grew_registered, grew_same, same_view, stands_at}
 use Rattle.tk_engine_unit_events.proofs.UnitSteps.{stands_same, started_child}
 use Rattle.tk_engine_unit_events.proofs.unit_events.UnitEvents.start_child.Goals as goal
@@ -125,7 +125,7 @@ returns-clause-free g c = λ t.
 
 pub returns-in_err-reserve-clause-err : goal.returns-in_err-reserve-clause-err
 returns-in_err-reserve-clause-err g c =
-    err_of _ (grew_same _ _ (ap (λ (v : UnitView). v.sink) c.self.view_is)
+    if_err _ _ (λ _. grew_same _ _ (ap (λ (v : UnitView). v.sink) c.self.view_is)
     (ap (λ (l : List RunningKey). keys_of (with_ids g.K.UnitRun.unit.frame.table l))
     c.reserve.ensures.same ∙ ap (λ (v : UnitView). v.running) c.self.view_is)
     (ap (λ (v : UnitView). v.stamp) c.self.view_is)
@@ -133,7 +133,7 @@ returns-in_err-reserve-clause-err g c =
 
 pub returns-in_err-innermost-clause-err : goal.returns-in_err-innermost-clause-err
 returns-in_err-innermost-clause-err g c =
-    err_of _ (grew_same _ _ (ap (λ (v : UnitView). v.sink) c.self.view_is)
+    if_err _ _ (λ _. grew_same _ _ (ap (λ (v : UnitView). v.sink) c.self.view_is)
     (ap (λ (l : List RunningKey). keys_of (with_ids g.K.UnitRun.unit.frame.table l))
     c.reserve.ensures.same ∙ ap (λ (v : UnitView). v.running) c.self.view_is)
     (ap (λ (v : UnitView). v.stamp) c.self.view_is)
@@ -141,7 +141,7 @@ returns-in_err-innermost-clause-err g c =
 
 pub returns-in_err-key-clause-err : goal.returns-in_err-key-clause-err
 returns-in_err-key-clause-err g c =
-    err_of _ (grew_same _ _
+    if_err _ _ (λ _. grew_same _ _
     (c.in_err-key.ensures.err ∙ ap (λ (v : UnitView). v.sink) c.self.view_is)
     (ap (λ (l : List RunningKey). keys_of (with_ids g.K.UnitRun.unit.frame.table l))
     c.reserve.ensures.same ∙ ap (λ (v : UnitView). v.running) c.self.view_is)
@@ -150,7 +150,7 @@ returns-in_err-key-clause-err g c =
 
 pub returns-in_err-emit-clause-err : goal.returns-in_err-emit-clause-err
 returns-in_err-emit-clause-err g c =
-    err_of _ (grew_registered _ _ _ _ _ c.in_ok-key.key
+    if_err _ _ (λ _. grew_registered _ _ _ _ _ c.in_ok-key.key
     (sym (ap (λ (v : UnitView). v.sink) c.self.view_is)) c.in_ok-key.ensures.registration
     c.in_err-emit.ensures.err
     (ap (λ (l : List RunningKey). keys_of (with_ids g.K.UnitRun.unit.frame.table l))
