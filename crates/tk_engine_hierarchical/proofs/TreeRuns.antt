@@ -7,7 +7,7 @@ use Rattle.std.specs.Prelude.{IfNone, OnOk, Result, Ok, Err}
 use Rattle.std.proofs.lemmas.List.{take_all}
 use Rattle.tk_ids.specs.declared.descriptors.Descriptor.{Descriptor}
 use Rattle.tk_events.specs.declared.events.Event.{Event}
-use Rattle.tk_events.specs.declared.kinds.Kind.TheVariants.{Finished, Skipped}
+use Rattle.tk_events.specs.declared.kinds.Kind.TheVariants.{Finished}
 use Rattle.tk_events.specs.declared.outcomes.Outcome.{Outcome}
 use Rattle.tk_events.specs.declared.payloads.Payload.TheVariants as payloads
 use Rattle.tk_plan.specs.declared.trees.nodes.Node.{Node}
@@ -43,9 +43,6 @@ if_none : {X A B : Type 0} (o : Option X) → IfNone o A → (A → B) → IfNon
 if_none None a f = f a
 if_none (Some x) a f = tt
 
-not_skipped : Finished ≡ Skipped → ⊥
-not_skipped e = cc
-
 -- a node that is no test with a body may finish as the plan says
 pub may_finish : (table : List Descriptor) (may_end : ℕ → Outcome → Type 0)
     (may_step : Event → Type 0) (p : NumberedNode) (key : ℕ) (end : Option TestEnd)
@@ -59,7 +56,7 @@ may_finish table may_end may_step p key end may runs own other =
     (event Finished key stamp (payloads.Outcome p.node.outcome)) (own low)
     (record {
       starts = λ kind. runs;
-      skipped = λ kind. absurd (not_skipped kind);
+      skipped = λ kind. absurd cc;
       ended = λ kind test. absurd (none test);
       planned = λ kind test. refl;
     }))
