@@ -7,5 +7,5 @@ pub use Rattle.tk_engine_runs.specs.Run.{IsRun}
 pub use Rattle.tk_engine_unit_events.specs.Refusals.{IsChildCause, IsInnermostCause, IsPublishCause}
 pub use Rattle.tk_engine_unit_events.specs.Refusals.{child_start}
 pub use Rattle.tk_engine_unit_events.specs.Shapes.{count_units}
-pub use Rattle.tk_engine_unit_events.specs.Taken.{IsFaultOfTaken, IsTaken}
+pub use Rattle.tk_engine_unit_events.specs.Taken.{IsFaultOfTaken, IsTaken, RefusesTaken}
 pub use Rattle.tk_queue_session.specs.Limits.{capacity_of}

@@ -1,7 +1,10 @@
 -- What a reporter's calls promise.
-use Rattle.std.proofs.Common.{◌≡◌, ◌≤◌, ◌⊎◌, inl, inr, ℕ, List, refl, sym, ◌∙◌, subst}
-use Rattle.std.specs.Prelude.{Err, IfErr, IfOk, Ok, OnOk, Option, Result}
-use Rattle.tk_ids.specs.IdText.{SegmentView}
+use Rattle.std.proofs.Common.{◌≡◌, ◌≤◌, ◌<◌, ◌⊎◌, ⊎_elim, inl, inr, ℕ, List, [], ◌∷◌, ◌++◌, length}
+use Rattle.std.proofs.Common.{refl, sym, ap, ◌∙◌, subst, arith}
+use Rattle.std.specs.List.{AllByRecursion}
+use Rattle.std.specs.Prelude.{Err, IfErr, IfOk, Ok, OnErr, OnOk, Result}
+use Rattle.tk_ids.specs.IdText.{IsSegment, SegmentView}
+use Rattle.tk_ids.specs.declared.descriptors.DType.{DType}
 use Rattle.tk_ids.specs.declared.descriptors.DType.TheVariants.{Test}
 use Rattle.tk_events.specs.declared.kinds.Kind.TheVariants.{Finished, Skipped, Started}
 use Rattle.tk_events.specs.declared.outcomes.Outcome.{Outcome}
@@ -10,57 +13,17 @@ use Rattle.tk_engine_execute.specs.Engines.{Extends}
 use Rattle.tk_engine_execute.specs.declared.engines.UnitFault.{UnitFault}
 use Rattle.tk_engine_unit_events.specs.Refusals.{IsChildCause, IsInnermostCause, child_start}
 use Rattle.tk_engine_unit_events.specs.Standing.{BegunUnit}
-use Rattle.tk_engine_unit_events.specs.UnitSteps.{BodyFails, BodyRuns, ChildView, HasFinished}
-use Rattle.tk_engine_unit_events.specs.UnitSteps.{HasSkipped, HasStarted, UnitView, child}
-use Rattle.tk_engine_unit_events.specs.UnitSteps.{child_request, event}
+use Rattle.tk_engine_unit_events.specs.Taken.{IsTaken, RefusesTaken}
+use Rattle.tk_engine_unit_events.specs.UnitSteps.{BodyFails, BodyRuns, ChildView, Grew}
+use Rattle.tk_engine_unit_events.specs.UnitSteps.{HasFinished, HasSkipped, HasStarted, KeepsOuter}
+use Rattle.tk_engine_unit_events.specs.UnitSteps.{UnitView, child, child_request, event}
 use Rattle.tk_engine_hierarchical.specs.Causes.{first_cause}
-use Rattle.tk_engine_hierarchical.specs.Reporting.{AtStamp, EndsChild, FailsOrDrops}
-use Rattle.tk_engine_hierarchical.specs.Reporting.{HasFailedDynamic, HasRunDynamic}
-use Rattle.tk_engine_hierarchical.specs.Reporting.{HasSkippedDynamic, HasStoppedDynamic}
-use Rattle.tk_engine_hierarchical.specs.Reporting.{IsStampOf, IsUnfinished, dynamic_skip}
-use Rattle.tk_engine_unit_events.proofs.UnitSteps.{if_err, on_ok}
-
-pub has_run_child : (may_run : BodyRuns) (old started before new : UnitView) (c : ChildView)
-    (above key stamp : ℕ) (outcome : Outcome) → IsStampOf old stamp
-    → HasStarted old started (child_request c above stamp)
-    (event Started key stamp payloads.Nothing)
-    → Extends started.sink before.sink → may_run started before outcome
-    → AtStamp before (λ n. HasFinished before new (event Finished key n (payloads.Outcome outcome)))
-    → HasRunDynamic may_run old new c
-has_run_child may_run old started before new c above key stamp outcome at s x r f = (
-  stamp,
-  at,
-  (
-    above,
-    record {
-      key = key;
-      started = started;
-      start = s;
-      before = before;
-      later = x;
-      outcome = outcome;
-      ran = r;
-      finish = f;
-    },
-  ),
-)
-
--- a child began, and its fault is kept
-pub failed_begun : (old started new : UnitView) (c : ChildView) (kept now : Option UnitFault)
-    (why : UnitFault) (above key stamp : ℕ) → IsStampOf old stamp
-    → HasStarted old started (child_request c above stamp)
-    (event Started key stamp payloads.Nothing)
-    → Extends started.sink new.sink → now ≡ first_cause kept why
-    → HasFailedDynamic old new c kept now why
-failed_begun old started new c kept now why above key stamp at s x cause =
-    inr (
-      (
-        stamp,
-        at,
-        (above, record { key = key; started = started; start = s; later = x }),
-      ),
-      cause,
-    )
+use Rattle.tk_engine_hierarchical.specs.Reporting.{AtStamp, BodyRules, FailsOrDrops}
+use Rattle.tk_engine_hierarchical.specs.Reporting.{HasSkippedDynamic, IsDynamicCause}
+use Rattle.tk_engine_hierarchical.specs.Reporting.{IsSegmentCause, IsStampOf, IsUnfinished}
+use Rattle.tk_engine_hierarchical.specs.Reporting.{ReporterView, RunsDynamicChild, skip_at}
+use Rattle.tk_engine_hierarchical.specs.Reporting.{start_at}
+use Rattle.tk_engine_unit_events.proofs.UnitSteps.{if_err}
 
 -- a body failed, or answered an outcome and had dropped the fault of a child
 pub fails_or_drops : (may_run : BodyRuns) (may_fail : BodyFails) (old new after : UnitView)
@@ -75,62 +38,147 @@ fails_or_drops may_run may_fail old new after (Err why) how same ran failed faul
     subst (λ r. IfErr r (FailsOrDrops may_run may_fail old after)) (sym (fault why refl))
     (inl (subst (λ v. may_fail old v why) (sym same) failed))
 
--- a child's body ran, and the child's finish was refused
-pub unfinished : (may_run : BodyRuns) (started ran mid new : UnitView) (key : ℕ)
-    (outcome : Outcome) (why : UnitFault) → mid ≡ ran → new ≡ mid → may_run started ran outcome
-    → AtStamp mid (λ n. IsInnermostCause mid (event Finished key n (payloads.Outcome outcome)) why)
-    → IsUnfinished may_run started new key why
-unfinished may_run started ran mid new key outcome why first last runs refused = record {
-  outcome = outcome;
-  ran = subst (λ v. may_run started v outcome) (sym (last ∙ first)) runs;
-  refused = subst (λ v. AtStamp v (λ n. IsInnermostCause v
-      (event Finished key n (payloads.Outcome outcome)) why)) (sym last) refused;
+-- the last segment of an id
+last_segment : (id : List SegmentView) (s : SegmentView) → AllByRecursion IsSegment (id ++ s ∷ [])
+    → IsSegment s
+last_segment [] s all = all.0
+last_segment (x ∷ id) s all = last_segment id s all.1
+
+-- what has no segment has no taken id
+pub segment_refused : (unit : BegunUnit) (u : UnitView) (s : SegmentView) (why : UnitFault)
+    → IsSegmentCause s why → RefusesTaken unit u u s why
+segment_refused unit u s why (inl empty) t =
+    let is = last_segment t.id s t.child_is_id.1 in
+    ⊎_elim (λ e. absurd (omega (arith, subst (λ l. 0 < length l) e is.0.0)))
+    (λ e. absurd (omega (arith, subst (λ l. 0 < length l) e is.1.0))) empty.0
+segment_refused unit u s why (inr memory) t = (inr memory, refl)
+
+-- a child wasn't started
+pub child_refused : (unit : BegunUnit) (body : BodyRules) (c : ChildView) (old new : ReporterView)
+    (why : UnitFault) → Grew old.events new.events → new.child_fault ≡ old.child_fault
+    → RefusesTaken unit old.events new.events c.segment why
+    → IsDynamicCause unit old.events c start_at why
+    → RunsDynamicChild unit body c old new (Err why)
+child_refused unit body c old new why grew kept taken cause = record {
+  ok = tt;
+  child = tt;
+  kept_fault = tt;
+  running = tt;
+  free = tt;
+  err = inl (grew, kept);
+  taken = taken;
+  cause = inl cause;
 }
 
--- a child began, and this is why it stopped
-pub stopped : (may_run : BodyRuns) (may_fail : BodyFails) (old started new : UnitView)
-    (c : ChildView) (why : UnitFault) (above key stamp : ℕ) → IsStampOf old stamp
-    → HasStarted old started (child_request c above stamp)
-    (event Started key stamp payloads.Nothing)
-    → Extends started.sink new.sink
-    → FailsOrDrops may_run may_fail started new why ⊎ IsUnfinished may_run started new key why
-    → HasStoppedDynamic may_run may_fail old new c why
-stopped may_run may_fail old started new c why above key stamp at s x stop = (
-  stamp,
-  at,
-  (above, record { key = key; started = started; start = s; later = x; stop = stop }),
-)
+-- the segment was copied, and the answer noted
+pub child_of_copy : (unit : BegunUnit) (body : BodyRules) (dtype : DType) (s t : SegmentView)
+    (name : List ℕ) (old new : ReporterView) (r noted : Result (Unit {0}) UnitFault)
+    → s ≡ t → noted ≡ r → RunsDynamicChild unit body (child dtype s name) old new r
+    → RunsDynamicChild unit body (child dtype t name) old new noted
+child_of_copy unit body dtype s t name old new r noted copied same runs =
+    subst (λ x. RunsDynamicChild unit body (child dtype x name) old new noted) copied
+    (subst (λ x. RunsDynamicChild unit body (child dtype s name) old new x) (sym same) runs)
 
--- what was noted of a finish changes nothing
-pub finish_noted : {F : Type 0} (r noted : Result (Unit {0}) F) (old before new after : UnitView)
-    (key : ℕ) (outcome : Outcome)
-    → noted ≡ r → before ≡ old → after ≡ new
-    → OnOk r (AtStamp before (λ n. HasFinished before new
-    (event Finished key n (payloads.Outcome outcome))))
-    → OnOk noted (AtStamp old (λ n. HasFinished old after
-    (event Finished key n (payloads.Outcome outcome))))
-finish_noted r noted old before new after key outcome same first last finished =
-    subst (λ x. OnOk x (AtStamp old (λ n. HasFinished old after
-    (event Finished key n (payloads.Outcome outcome)))))
-    (sym same)
-    (on_ok r finished
-    (λ f. subst (λ (w : UnitView). AtStamp old (λ n. HasFinished old w
-    (event Finished key n (payloads.Outcome outcome)))) (sym last)
-    (subst (λ (v : UnitView). AtStamp v (λ n. HasFinished v new
-    (event Finished key n (payloads.Outcome outcome)))) first f)))
+-- a child that was started
+module _ (unit : BegunUnit) (body : BodyRules) (c : ChildView) (old : ReporterView)
+    (started : UnitView) (above key stamp : ℕ) (at : IsStampOf old.events stamp)
+    (start : HasStarted old.events started (child_request c above stamp)
+    (event Started key stamp payloads.Nothing))
+    (free : ¬ IsTaken unit old.events c.segment) where
+  -- its body failed, or its finish was refused
+  pub child_stopped : (new : ReporterView) (why : UnitFault)
+      → new.child_fault ≡ first_cause old.child_fault why
+      → Extends started.sink new.events.sink
+      → FailsOrDrops body.may_run body.may_fail started new.events why
+      ⊎ IsUnfinished body.may_run started new.events key why
+      → RunsDynamicChild unit body c old new (Err why)
+  child_stopped new why cause later stop = record {
+    ok = tt;
+    child = tt;
+    kept_fault = tt;
+    running = tt;
+    free = tt;
+    err = inr (
+      (
+        stamp,
+        at,
+        (above, record { key = key; started = started; start = start; later = later }),
+      ),
+      cause,
+    );
+    taken = λ t. absurd (free t);
+    cause = inr (
+      stamp,
+      at,
+      (
+        above,
+        record { key = key; started = started; start = start; later = later; stop = stop },
+      ),
+    );
+  }
 
-pub ends_child : (statics : ℕ) (may_end : Outcome → Type 0) (old new : UnitView) (key : ℕ)
-    (outcome : Outcome) → statics ≤ key → may_end outcome
-    → AtStamp old (λ n. HasFinished old new (event Finished key n (payloads.Outcome outcome)))
-    → EndsChild statics may_end new
-ends_child statics may_end old new key outcome dynamic its f = record {
-  key = key;
-  dynamic = dynamic;
-  before = old.sink;
-  outcome = outcome;
-  its = its;
-  took = (f.0, λ set is. f.1 set (sym f.2.stamp ∙ is), f.2.took);
-}
+  -- its body ran, and then it finished, or its finish was refused
+  pub child_ran : (ran after new : ReporterView) (outcome : Outcome)
+      (r : Result (Unit {0}) UnitFault)
+      → OnOk r (new.child_fault ≡ after.child_fault)
+      → IfErr r (λ why. new.child_fault ≡ first_cause after.child_fault why)
+      → after.child_fault ≡ old.child_fault → new.events ≡ after.events
+      → length unit.frame.table ≤ key → body.may_end outcome
+      → Extends started.sink ran.events.sink → KeepsOuter started ran.events
+      → body.may_run started ran.events outcome
+      → OnOk r (AtStamp ran.events (λ n. HasFinished ran.events after.events
+      (event Finished key n (payloads.Outcome outcome))))
+      → OnErr r (after.events ≡ ran.events)
+      → IfErr r (λ why. AtStamp ran.events (λ n. IsInnermostCause ran.events
+      (event Finished key n (payloads.Outcome outcome)) why))
+      → RunsDynamicChild unit body c old new r
+  child_ran ran after new outcome (Ok _) ok err kept same dynamic its later outer runs finish
+      unmoved cause =
+      let f = subst (λ v. AtStamp ran.events (λ n. HasFinished ran.events v
+      (event Finished key n (payloads.Outcome outcome)))) (sym same) finish in record {
+        ok = record {
+          key = key;
+          dynamic = dynamic;
+          before = ran.events.sink;
+          outcome = outcome;
+          its = its;
+          took = (f.0, λ set is. f.1 set (sym f.2.stamp ∙ is), f.2.took);
+        };
+        child = (
+          stamp,
+          at,
+          (
+            above,
+            record {
+              key = key;
+              started = started;
+              start = start;
+              before = ran.events;
+              later = later;
+              outcome = outcome;
+              ran = runs;
+              finish = f;
+            },
+          ),
+        );
+        kept_fault = ok ∙ kept;
+        running = outer key _ _ start.running f.2.running;
+        free = free;
+        err = tt;
+        taken = tt;
+        cause = tt;
+      }
+  child_ran ran after new outcome (Err why) ok err kept same dynamic its later outer runs finish
+      unmoved cause =
+      let is = sym (same ∙ unmoved) in
+      child_stopped new why (err ∙ ap (λ fault. first_cause fault why) kept)
+      (subst (λ (v : UnitView). Extends started.sink v.sink) is later)
+      (inr (record {
+        outcome = outcome;
+        ran = subst (λ v. body.may_run started v outcome) is runs;
+        refused = subst (λ v. AtStamp v (λ n. IsInnermostCause v
+            (event Finished key n (payloads.Outcome outcome)) why)) is cause;
+      }))
 
 -- a skip with a segment and a reason that were copied
 pub named_skip : (old new : UnitView) (s t : SegmentView) (name : List ℕ) (stamp : ℕ)
@@ -154,7 +202,8 @@ pub named_skip_cause : (unit : BegunUnit) (u : UnitView) (s t : SegmentView) (na
     → IsStampOf u stamp → s ≡ t → copied ≡ reason
     → IsChildCause unit u (child_start (child Test s name) stamp
     (λ key. event Skipped key stamp (payloads.Reason copied))) why
-    → AtStamp u (λ n. IsChildCause unit u (dynamic_skip (child Test t name) reason n) why)
+    → AtStamp u (λ n. IsChildCause unit u (child_start (child Test t name) n (skip_at reason n))
+    why)
 named_skip_cause unit u s t name stamp copied reason why at a b cause = (
   stamp,
   at,

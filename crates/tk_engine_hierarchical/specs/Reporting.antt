@@ -1,5 +1,5 @@
 -- What a reporter emits.
-use Rattle.std.specs.Prelude.{◌≡◌, ◌⊎◌, ℕ, ◌≤◌, List, [], Option, Some}
+use Rattle.std.specs.Prelude.{◌≡◌, ◌⊎◌, ℕ, ◌≤◌, List, [], IfErr, OnOk, Option, Result, Some, length}
 use Rattle.std.specs.Borrow.{Bor}
 use Rattle.tk_ids.specs.IdText.{SegmentView}
 use Rattle.tk_ids.specs.declared.descriptors.DType.{DType}
@@ -17,10 +17,30 @@ use Rattle.tk_engine_execute.specs.declared.engines.UnitFault.TheVariants.{Memor
 use Rattle.tk_engine_unit_events.specs.UnitSteps.{BodyFails, BodyRuns, ChildView, Grew}
 use Rattle.tk_engine_unit_events.specs.UnitSteps.{HasFinished, HasSkipped, HasStarted, Published}
 use Rattle.tk_engine_unit_events.specs.UnitSteps.{UnitView, child, child_request, event}
-use Rattle.tk_engine_unit_events.specs.Refusals.{ChildStart, IsChildCause, IsInnermostCause}
+use Rattle.tk_engine_unit_events.specs.Refusals.{IsChildCause, IsInnermostCause}
 use Rattle.tk_engine_unit_events.specs.Refusals.{IsPublishCause, child_start}
 use Rattle.tk_engine_unit_events.specs.Standing.{BegunUnit}
+use Rattle.tk_engine_unit_events.specs.Taken.{IsTaken, RefusesTaken}
 use Rattle.tk_engine_hierarchical.specs.Causes.{first_cause}
+
+-- what contracts see of a reporter: its unit, and the cause of the first fault of a child that had
+-- begun
+pub record ReporterView : Type 0 where
+  pub events : UnitView
+  pub child_fault : Option UnitFault
+
+abbrev pub reporter : UnitView → Option UnitFault → ReporterView
+reporter events child_fault = record { events = events; child_fault = child_fault }
+
+-- what a body promises: with which outcomes it may end, how it may run, and how it may fail
+pub record BodyRules : Type 1 where
+  pub may_end : Outcome → Type 0
+  pub may_run : BodyRuns
+  pub may_fail : BodyFails
+
+abbrev pub body_rules : (Outcome → Type 0) → BodyRuns → BodyFails → BodyRules
+body_rules may_end may_run may_fail =
+    record { may_end = may_end; may_run = may_run; may_fail = may_fail }
 
 -- the stamp is the one that the unit has; where it has none, the clock read it
 abbrev pub IsStampOf : UnitView → ℕ → Type 0
@@ -93,17 +113,13 @@ HasStoppedDynamic may_run may_fail old new c why =
     AtStamp old (λ stamp.
     (above : ℕ) × HasStoppedChild may_run may_fail old new (child_request c above stamp) why)
 
--- what is asked for, to start a child at this stamp
-abbrev pub dynamic_start : ChildView → ℕ → ChildStart
-dynamic_start c stamp = child_start c stamp (λ key. event Started key stamp payloads.Nothing)
-
 -- A child wasn't started, and no other fault is kept; or it was started, its body or its finish was
 -- refused, and the cause of the first such fault is kept.
-abbrev pub HasFailedDynamic :
-    UnitView → UnitView → ChildView → Option UnitFault → Option UnitFault → UnitFault → Type 0
-HasFailedDynamic old new c kept now why =
-    (Grew old new × (now ≡ kept))
-    ⊎ (HasBegunDynamic old new c × (now ≡ first_cause kept why))
+abbrev pub HasFailedDynamic : ReporterView → ReporterView → ChildView → UnitFault → Type 0
+HasFailedDynamic old new c why =
+    (Grew old.events new.events × (new.child_fault ≡ old.child_fault))
+    ⊎ (HasBegunDynamic old.events new.events c
+    × (new.child_fault ≡ first_cause old.child_fault why))
 
 -- the segment of this tag and this value
 abbrev pub segment_view : Bor (List ℕ) × Bor (List ℕ) → SegmentView
@@ -118,12 +134,12 @@ abbrev pub IsSegmentCause : SegmentView → UnitFault → Type 0
 IsSegmentCause s why =
     (((s.tag ≡ []) ⊎ (s.value ≡ [])) × (why ≡ fault_of_id Empty)) ⊎ (why ≡ Memory)
 
--- why a body has no child, which it asks for at a stamp: its segment can't be made, or the unit
--- refuses it
-abbrev pub IsDynamicCause :
-    BegunUnit → UnitView → SegmentView → (ℕ → ChildStart) → UnitFault → Type 0
-IsDynamicCause unit u segment at why =
-    IsSegmentCause segment why ⊎ AtStamp u (λ stamp. IsChildCause unit u (at stamp) why)
+-- why a body has no child, whose first event has a stamp and a key: its segment can't be made, or
+-- the unit refuses it
+abbrev pub IsDynamicCause : BegunUnit → UnitView → ChildView → (ℕ → ℕ → Event) → UnitFault → Type 0
+IsDynamicCause unit u c first why =
+    IsSegmentCause c.segment why
+    ⊎ AtStamp u (λ stamp. IsChildCause unit u (child_start c stamp (first stamp)) why)
 
 -- the unit refused the event, which has a stamp and a key
 abbrev pub IsEventCause : UnitView → (ℕ → ℕ → Event) → UnitFault → Type 0
@@ -145,13 +161,13 @@ entry_at pairs stamp key = event Reporting key stamp (payloads.Report pairs)
 abbrev pub file_at : List ℕ → ℕ → ℕ → Event
 file_at path stamp key = event File key stamp (payloads.Path path)
 
+-- the start of a key at a stamp
+abbrev pub start_at : ℕ → ℕ → Event
+start_at stamp key = event Started key stamp payloads.Nothing
+
 -- the skip of a key for this reason at a stamp
 abbrev pub skip_at : List ℕ → ℕ → ℕ → Event
 skip_at reason stamp key = event Skipped key stamp (payloads.Reason reason)
-
--- what is asked for, to skip a child at this stamp
-abbrev pub dynamic_skip : ChildView → List ℕ → ℕ → ChildStart
-dynamic_skip c reason stamp = child_start c stamp (skip_at reason stamp)
 
 -- a child was registered below the innermost running key and skipped, and nothing else happened
 abbrev pub HasSkippedDynamic : UnitView → UnitView → ChildView → List ℕ → Type 0
@@ -168,3 +184,19 @@ pub record EndsChild (statics : ℕ) (may_end : Outcome → Type 0) (new : UnitV
   pub its : may_end outcome
   pub took : AtStamp new (λ stamp.
       new.sink ≡ sends before (event Finished key stamp (payloads.Outcome outcome)))
+
+-- What a call of a reporter leaves and answers that runs a body as a child of the innermost running
+-- key.
+pub record RunsDynamicChild (unit : BegunUnit) (body : BodyRules) (c : ChildView)
+    (old new : ReporterView) (result : Result (Unit {0}) UnitFault) : Type 0 where
+  pub ok : OnOk result (EndsChild (length unit.frame.table) body.may_end new.events)
+  pub child : OnOk result (HasRunDynamic body.may_run old.events new.events c)
+  pub kept_fault : OnOk result (new.child_fault ≡ old.child_fault)
+  pub running : OnOk result (new.events.running ≡ old.events.running)
+  -- no descriptor that the unit knows had the child's id
+  pub free : OnOk result (¬ IsTaken unit old.events c.segment)
+  pub err : IfErr result (HasFailedDynamic old new c)
+  pub taken : IfErr result (RefusesTaken unit old.events new.events c.segment)
+  -- the child wasn't started; or it was, and its body failed or its finish was refused
+  pub cause : IfErr result (λ why. IsDynamicCause unit old.events c start_at why
+      ⊎ HasStoppedDynamic body.may_run body.may_fail old.events new.events c why)

@@ -1,5 +1,5 @@
 //! What a test publishes while it runs.
-ghost use Rattle.std.specs.Prelude.{◌≡◌, ◌⊎◌, ◌≤◌, ◌∷◌, [], Err, IfErr, IfOk, None, Ok, OnErr, OnOk, Some, length};
+ghost use Rattle.std.specs.Prelude.{◌≡◌, ◌≤◌, ◌∷◌, [], Err, IfErr, IfOk, None, Ok, OnErr, OnOk, Some, length};
 ghost use Rattle.tk_ids.specs.declared.descriptors.Descriptor.{Descriptor as DescriptorView};
 ghost use Rattle.tk_ids.specs.declared.descriptors.DType.TheVariants.{Container, Test};
 ghost use Rattle.tk_events.specs.declared.kinds.Kind.TheVariants.{Finished};
@@ -8,9 +8,9 @@ ghost use Rattle.tk_engine_execute.specs.Engines.{Extends, IsSameSender};
 ghost use Rattle.tk_engine_execute.specs.declared.engines.UnitFault.{UnitFault};
 ghost use Rattle.tk_engine_execute.specs.declared.engines.UnitFault.TheVariants.{Own};
 ghost use Rattle.tk_engine_hierarchical.specs.Causes.{first_cause};
-ghost use Rattle.tk_engine_hierarchical.specs.Reporting.{AtStamp, EndsChild, FailsOrDrops, HasFailedDynamic, HasRunDynamic, HasSkippedDynamic, HasStoppedDynamic, IsDynamicCause, IsEventCause, IsSegmentCause, IsStampOf, IsTextCause, PublishedNow, dynamic_skip, dynamic_start, entry_at, file_at, named_child, segment_view};
-ghost use Rattle.tk_engine_unit_events.specs.Refusals.{IsChildCause, IsInnermostCause};
-ghost use Rattle.tk_engine_unit_events.specs.Taken.{IsFaultOfTaken, IsTaken};
+ghost use Rattle.tk_engine_hierarchical.specs.Reporting.{AtStamp, FailsOrDrops, HasSkippedDynamic, IsDynamicCause, IsEventCause, IsSegmentCause, IsStampOf, IsTextCause, PublishedNow, RunsDynamicChild, body_rules, entry_at, file_at, named_child, reporter, segment_view, skip_at};
+ghost use Rattle.tk_engine_unit_events.specs.Refusals.{IsInnermostCause};
+ghost use Rattle.tk_engine_unit_events.specs.Taken.{IsTaken, RefusesTaken};
 ghost use Rattle.tk_engine_unit_events.specs.UnitSteps.{Grew, HasFinished, IsInnermost, event};
 
 use crate::causes::{cause_of, ending};
@@ -187,37 +187,6 @@ impl<'r, 'a, C: Context> Reporter<'r, 'a, C> {
         self.events.finish(self.rt, key, stamp, outcome)
     }
 
-    // Registers and starts a child, runs its body, and finishes it.
-    fn run_child<B: Body>(&mut self, child: &Child<'_>, body: &B) -> Result<(), UnitFault>
-        ensures ok { OnOk result
-            (EndsChild (length C.Run.unit.frame.table) (B.may_end body.now) self.new.events) }
-        ensures child { OnOk result (HasRunDynamic (B.may_run body.now)
-            self.old.events self.new.events child.now) }
-        ensures err { IfErr result (HasFailedDynamic self.old.events self.new.events child.now
-            self.old.child_fault self.new.child_fault) }
-        ensures kept { OnOk result (self.new.child_fault ≡ self.old.child_fault) }
-        ensures running { OnOk result (self.new.events.running ≡ self.old.events.running) }
-        ensures free { OnOk result (¬ IsTaken C.Run.unit self.old.events child.now.segment) }
-        ensures taken { IfErr result (λ why. IsTaken C.Run.unit self.old.events child.now.segment
-            → IsFaultOfTaken why × (self.new.events ≡ self.old.events)) }
-        ensures cause { IfErr result (λ why. AtStamp self.old.events (λ stamp.
-            IsChildCause C.Run.unit self.old.events (dynamic_start child.now stamp) why)
-            ⊎ HasStoppedDynamic (B.may_run body.now) (B.may_fail body.now)
-            self.old.events self.new.events child.now why) }
-    {
-        let (rt, alloc) = (self.rt, self.alloc);
-        let stamp = self.stamp();
-        let key = self.events.start_child(rt, alloc, child, stamp, stamp)?;
-        let body = ReportingBody {
-            body,
-            clock: self.clock,
-        };
-        let ended = self.events.run_body(rt, alloc, &body);
-        let outcome = self.note(ended)?;
-        let finished = self.finish(key, outcome);
-        self.note(finished)
-    }
-
     // Registers and starts a child with a segment of this tag and this value, runs its body, and
     // finishes it.
     fn run_dynamic<B: Body>(
@@ -227,33 +196,29 @@ impl<'r, 'a, C: Context> Reporter<'r, 'a, C> {
         name: &str,
         body: &B,
     ) -> Result<(), UnitFault>
-        ensures ok { OnOk result
-            (EndsChild (length C.Run.unit.frame.table) (B.may_end body.now) self.new.events) }
-        ensures child { OnOk result (HasRunDynamic (B.may_run body.now)
-            self.old.events self.new.events (named_child dtype segment.entry name.now)) }
-        ensures err { IfErr result (HasFailedDynamic self.old.events self.new.events
+        ensures runs { RunsDynamicChild C.Run.unit
+            (body_rules (B.may_end body.now) (B.may_run body.now) (B.may_fail body.now))
             (named_child dtype segment.entry name.now)
-            self.old.child_fault self.new.child_fault) }
-        ensures kept { OnOk result (self.new.child_fault ≡ self.old.child_fault) }
-        ensures running { OnOk result (self.new.events.running ≡ self.old.events.running) }
-        ensures free { OnOk result
-            (¬ IsTaken C.Run.unit self.old.events (segment_view segment.entry)) }
-        ensures taken { IfErr result (λ why.
-            IsTaken C.Run.unit self.old.events (segment_view segment.entry)
-            → IsFaultOfTaken why × (self.new.events ≡ self.old.events)) }
-        ensures cause { IfErr result (λ why.
-            IsDynamicCause C.Run.unit self.old.events (segment_view segment.entry)
-            (dynamic_start (named_child dtype segment.entry name.now)) why
-            ⊎ HasStoppedDynamic (B.may_run body.now) (B.may_fail body.now)
-            self.old.events self.new.events (named_child dtype segment.entry name.now) why) }
+            (reporter self.old.events self.old.child_fault)
+            (reporter self.new.events self.new.child_fault) result }
     {
-        let segment = segment_of(self.alloc, segment)?;
+        let (rt, alloc) = (self.rt, self.alloc);
+        let segment = segment_of(alloc, segment)?;
         let child = Child {
             segment: &segment,
             name,
             dtype,
         };
-        self.run_child(&child, body)
+        let stamp = self.stamp();
+        let key = self.events.start_child(rt, alloc, &child, stamp, stamp)?;
+        let body = ReportingBody {
+            body,
+            clock: self.clock,
+        };
+        let ended = self.events.run_body(rt, alloc, &body);
+        let outcome = self.note(ended)?;
+        let finished = self.finish(key, outcome);
+        self.note(finished)
     }
 
     /// The runtime, for what waits.
@@ -368,25 +333,11 @@ impl<'r, 'a, C: Context> Reporter<'r, 'a, C> {
         name: &str,
         body: &B,
     ) -> Result<(), UnitFault>
-        ensures ok { OnOk result
-            (EndsChild (length C.Run.unit.frame.table) (B.may_end body.now) self.new.events) }
-        ensures child { OnOk result (HasRunDynamic (B.may_run body.now)
-            self.old.events self.new.events (named_child Test segment.entry name.now)) }
-        ensures err { IfErr result (HasFailedDynamic self.old.events self.new.events
+        ensures runs { RunsDynamicChild C.Run.unit
+            (body_rules (B.may_end body.now) (B.may_run body.now) (B.may_fail body.now))
             (named_child Test segment.entry name.now)
-            self.old.child_fault self.new.child_fault) }
-        ensures kept { OnOk result (self.new.child_fault ≡ self.old.child_fault) }
-        ensures running { OnOk result (self.new.events.running ≡ self.old.events.running) }
-        ensures free { OnOk result
-            (¬ IsTaken C.Run.unit self.old.events (segment_view segment.entry)) }
-        ensures taken { IfErr result (λ why.
-            IsTaken C.Run.unit self.old.events (segment_view segment.entry)
-            → IsFaultOfTaken why × (self.new.events ≡ self.old.events)) }
-        ensures cause { IfErr result (λ why.
-            IsDynamicCause C.Run.unit self.old.events (segment_view segment.entry)
-            (dynamic_start (named_child Test segment.entry name.now)) why
-            ⊎ HasStoppedDynamic (B.may_run body.now) (B.may_fail body.now)
-            self.old.events self.new.events (named_child Test segment.entry name.now) why) }
+            (reporter self.old.events self.old.child_fault)
+            (reporter self.new.events self.new.child_fault) result }
         // Whatever the body does.
         ensures same { IsSameSender C.Run.unit.start self.new.events.sink }
         ensures some { Extends C.Run.unit.start self.new.events.sink }
@@ -409,25 +360,11 @@ impl<'r, 'a, C: Context> Reporter<'r, 'a, C> {
         name: &str,
         body: &B,
     ) -> Result<(), UnitFault>
-        ensures ok { OnOk result
-            (EndsChild (length C.Run.unit.frame.table) (B.may_end body.now) self.new.events) }
-        ensures child { OnOk result (HasRunDynamic (B.may_run body.now)
-            self.old.events self.new.events (named_child Container segment.entry name.now)) }
-        ensures err { IfErr result (HasFailedDynamic self.old.events self.new.events
+        ensures runs { RunsDynamicChild C.Run.unit
+            (body_rules (B.may_end body.now) (B.may_run body.now) (B.may_fail body.now))
             (named_child Container segment.entry name.now)
-            self.old.child_fault self.new.child_fault) }
-        ensures kept { OnOk result (self.new.child_fault ≡ self.old.child_fault) }
-        ensures running { OnOk result (self.new.events.running ≡ self.old.events.running) }
-        ensures free { OnOk result
-            (¬ IsTaken C.Run.unit self.old.events (segment_view segment.entry)) }
-        ensures taken { IfErr result (λ why.
-            IsTaken C.Run.unit self.old.events (segment_view segment.entry)
-            → IsFaultOfTaken why × (self.new.events ≡ self.old.events)) }
-        ensures cause { IfErr result (λ why.
-            IsDynamicCause C.Run.unit self.old.events (segment_view segment.entry)
-            (dynamic_start (named_child Container segment.entry name.now)) why
-            ⊎ HasStoppedDynamic (B.may_run body.now) (B.may_fail body.now)
-            self.old.events self.new.events (named_child Container segment.entry name.now) why) }
+            (reporter self.old.events self.old.child_fault)
+            (reporter self.new.events self.new.child_fault) result }
         // Whatever the body does.
         ensures same { IsSameSender C.Run.unit.start self.new.events.sink }
         ensures some { Extends C.Run.unit.start self.new.events.sink }
@@ -452,12 +389,10 @@ impl<'r, 'a, C: Context> Reporter<'r, 'a, C> {
         ensures err { OnErr result (Grew self.old.events self.new.events) }
         ensures free { OnOk result
             (¬ IsTaken C.Run.unit self.old.events (segment_view segment.entry)) }
-        ensures taken { IfErr result (λ why.
-            IsTaken C.Run.unit self.old.events (segment_view segment.entry)
-            → IsFaultOfTaken why × (self.new.events ≡ self.old.events)) }
+        ensures taken { IfErr result (RefusesTaken C.Run.unit self.old.events self.new.events
+            (segment_view segment.entry)) }
         ensures cause { IfErr result (IsDynamicCause C.Run.unit self.old.events
-            (segment_view segment.entry)
-            (dynamic_skip (named_child Test segment.entry name.now) reason.now)) }
+            (named_child Test segment.entry name.now) (skip_at reason.now)) }
         ensures kept { self.new.child_fault ≡ self.old.child_fault }
     {
         let reason = Payload::Reason(Text::copy(self.alloc, reason)?);

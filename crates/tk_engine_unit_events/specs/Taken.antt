@@ -25,3 +25,8 @@ pub record IsTaken (unit : BegunUnit) (u : UnitView) (segment : SegmentView) : T
 -- a fault with which such a child is refused: of its own, or a request for memory was refused
 abbrev pub IsFaultOfTaken : UnitFault → Type 0
 IsFaultOfTaken why = (why ≡ Own TWICE) ⊎ (why ≡ Memory)
+
+-- where the id of such a child is taken, this fault refuses it, and nothing happened
+abbrev pub RefusesTaken : BegunUnit → UnitView → UnitView → SegmentView → UnitFault → Type 0
+RefusesTaken unit old new segment why =
+    IsTaken unit old segment → IsFaultOfTaken why × (new ≡ old)

@@ -10,7 +10,7 @@ ghost use Rattle.tk_engine_unit_events.specs.UnitSteps.{Grew, HasFinished, HasSk
 ghost use Rattle.tk_engine_unit_events.specs.Shapes.{count_units, frame, keys_in};
 ghost use Rattle.tk_engine_unit_events.specs.Standing.{IsComplete, StandsAt};
 ghost use Rattle.tk_engine_unit_events.specs.Refusals.{HasRefused, IsChildCause, IsInnermostCause, IsPublishCause, IsStartCause, IsTurnCause, child_start};
-ghost use Rattle.tk_engine_unit_events.specs.Taken.{IsFaultOfTaken, IsTaken};
+ghost use Rattle.tk_engine_unit_events.specs.Taken.{IsTaken, RefusesTaken};
 ghost use Rattle.tk_engine_unit_events.specs.steps.{unit_view};
 ghost use Rattle.tk_engine_unit_events.specs.declared.running_keys.RunningKey.{RunningKey};
 
@@ -470,8 +470,8 @@ impl<'a, S: Sink, K: UnitRun> UnitEvents<'a, S, K> {
             (child_request child.now above registered) (event Started key stamp Nothing)) }
         ensures err { OnErr result (Grew self.old self.new) }
         ensures free { OnOk result (¬ IsTaken K.unit self.old child.now.segment) }
-        ensures taken { IfErr result (λ why. IsTaken K.unit self.old child.now.segment
-            → IsFaultOfTaken why × (self.new ≡ self.old)) }
+        ensures taken { IfErr result
+            (RefusesTaken K.unit self.old self.new child.now.segment) }
         ensures cause { IfErr result (IsChildCause K.unit self.old (child_start child.now registered
             (λ key. event Started key stamp Nothing))) }
         ensures refused { IfErr result (HasRefused self.old self.new (child_start child.now
@@ -517,8 +517,8 @@ impl<'a, S: Sink, K: UnitRun> UnitEvents<'a, S, K> {
             (child_request child.now above registered) (event Skipped key stamp reason)) }
         ensures err { OnErr result (Grew self.old self.new) }
         ensures free { OnOk result (¬ IsTaken K.unit self.old child.now.segment) }
-        ensures taken { IfErr result (λ why. IsTaken K.unit self.old child.now.segment
-            → IsFaultOfTaken why × (self.new ≡ self.old)) }
+        ensures taken { IfErr result
+            (RefusesTaken K.unit self.old self.new child.now.segment) }
         ensures cause { IfErr result (IsChildCause K.unit self.old (child_start child.now registered
             (λ key. event Skipped key stamp reason))) }
         ensures refused { IfErr result (HasRefused self.old self.new (child_start child.now
