@@ -17,7 +17,7 @@ LIMITS = Limits(
     ],
     fewest_wrong_bodies=143,
     fewest_tests=225,
-    most_restated=4,
+    most_restated=3,
 )
 
 
