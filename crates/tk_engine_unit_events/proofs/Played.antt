@@ -1,6 +1,6 @@
 -- What a unit has played after one event more.
 use Rattle.std.proofs.Common.{◌≡◌, ◌<◌, ◌≤◌, ◌+◌, ◌==◌, ◌&&◌, ◌||◌, ℕ, zero, suc, ◌⊎◌, inl}
-use Rattle.std.proofs.Common.{inr, ⊎_elim, Bool, true, false, List, [], ◌∷◌, ◌++◌, length}
+use Rattle.std.proofs.Common.{inr, ⊎_elim, true, false, List, [], ◌∷◌, ◌++◌, length}
 use Rattle.std.proofs.Common.{None, Some, slice_get, All, refl, sym, ap, ap₂, ◌∙◌, subst}
 use Rattle.std.proofs.Common.{append_assoc, append-nil, arith, tests}
 use Rattle.std.specs.List.{list_any}
