@@ -17,6 +17,8 @@ use Rattle.tk_query_conditions.specs.Cond as condition
 use Rattle.tk_query_conditions.specs.Cond.{Cond, Plain, With, OfKind, HasSegment, HasPairs, All, Any, Not, Conds, Nothing, More}
 use Rattle.tk_query.specs.Holds.{has_message, has_path, has_reason, message_contains, pairs_list, reports}
 use Rattle.tk_query_nearest.specs.Parts.{IsKind, Meets, has_key, missing, missing_of_all, path_contains, reason_contains}
+use Rattle.tk_query_nearest.specs.declared.counted.Counted.TheVariants.{Others}
+use Rattle.tk_query_nearest.specs.steps.Counted.{missing_of, missing_of_members}
 use Rattle.tk_query_nearest.specs.steps.RuledOut.{finished_with_message, lack_of_kind, ruled_out, ruled_out_of_all}
 use Rattle.tk_query_nearest.proofs.PartLemmas.{keys, keys_counted, missing-append}
 
@@ -163,3 +165,25 @@ module _ (r : Recorded) (e : Entry) (lawful : is_lawful e.event.kind e.event.pay
         (finished_with_message e.event.kind e.event.payload) ≤ missing_of_all r cs e
     ruled_out_of_all_lacks Nothing = omega arith
     ruled_out_of_all_lacks (More cs c) = omega (arith, ruled_out_of_all_lacks cs, ruled_out_lacks c)
+
+  -- What is ruled out doesn't hold of the members that ask of something else than the descriptor.
+  mutual
+    pub others_lack : (c : Cond)
+        → ruled_out c e.event.kind (status_number e.event.kind e.event.payload)
+        (finished_with_message e.event.kind e.event.payload) ≤ missing_of Others r c e
+    others_lack (All cs) = all_others_lack cs
+    others_lack (Any cs) = omega arith
+    others_lack (Not c) = omega arith
+    others_lack (Plain condition.Test) = omega arith
+    others_lack (Plain condition.Container) = omega arith
+    others_lack (Plain condition.Engine) = omega arith
+    others_lack (With condition.Id text) = omega arith
+    others_lack (With condition.Name text) = omega arith
+    others_lack (HasSegment tag value) = omega arith
+    others_lack c = ruled_out_lacks c
+
+    all_others_lack : (cs : Conds)
+        → ruled_out_of_all cs e.event.kind (status_number e.event.kind e.event.payload)
+        (finished_with_message e.event.kind e.event.payload) ≤ missing_of_members Others r cs e
+    all_others_lack Nothing = omega arith
+    all_others_lack (More cs c) = omega (arith, all_others_lack cs, others_lack c)

@@ -1,5 +1,6 @@
 //! How many parts of one condition don't hold of one event after the other.
-ghost use Rattle.std.specs.Prelude.{◌≡◌, ℕ, min, IfOk, OnOk, MatchOption, slice_get};
+ghost use Rattle.std.specs.Prelude.{◌≡◌, ℕ, min, true, IfOk, OnOk, MatchOption, slice_get};
+ghost use Rattle.tk_events.specs.Event.{is_lawful};
 ghost use Rattle.tk_record.specs.Record.{entry_of_view};
 ghost use Rattle.tk_record.specs.Recorded.{Recorded};
 ghost use Rattle.tk_query_conditions.specs.CondOf.{cond_of};
@@ -69,7 +70,9 @@ impl Distances {
         Ok(count)
     }
 
-    /// How many parts of the condition don't hold of an event, up to `most`.
+    /// How many parts of the condition don't hold of an event, up to `most`. None is counted where
+    /// what the event is, whatever its texts are, rules out as many; and none but those of the
+    /// descriptor where these two make as many together.
     fn of_event(
         &mut self,
         record: &Record,
@@ -77,13 +80,21 @@ impl Distances {
         event: &EntryView,
         most: usize,
     ) -> Result<usize, AllocError>
-        requires { AreDistances «record».now (cond_of condition.now) most self.old }
+        requires distances { AreDistances «record».now (cond_of condition.now) most self.old }
+        requires lawful { is_lawful event.now.kind event.now.payload.now ≡ true }
         ensures value { IfOk result (λ n.
             n ≡ min (missing «record».now (cond_of condition.now) (entry_of_view event.now)) most) }
         ensures kept { OnOk result
             (AreDistances «record».now (cond_of condition.now) most self.new) }
     {
+        let ruled_out = self.ruled_out.by(event);
+        if ruled_out >= most {
+            return Ok(most);
+        }
         let known = self.of_descriptor(record, condition, event, most)?;
+        if ruled_out >= most - known {
+            return Ok(most);
+        }
         if !self.some_others {
             return Ok(known);
         }
@@ -91,8 +102,7 @@ impl Distances {
     }
 
     /// How many parts of the condition don't hold of the entry at a position, up to `most`; 0 past
-    /// the last one. None is counted where what the event is, whatever its texts are, rules out as
-    /// many.
+    /// the last one.
     pub(crate) fn at(
         &mut self,
         record: &Record,
@@ -110,7 +120,6 @@ impl Distances {
         // For the proof: an event has no other content than its kind asks for.
         record.shows_record();
         match record.entry(position) {
-            Some(event) if self.ruled_out.by(&event) >= most => Ok(most),
             Some(event) => self.of_event(record, condition, &event, most),
             None => Ok(0),
         }

@@ -5,29 +5,17 @@ use Rattle.tk_record.specs.Record.{entry_of_view}
 use Rattle.tk_query_conditions.specs.CondOf.{cond_of}
 use Rattle.tk_record.proofs.PickedEntries.{if_ok_then}
 use Rattle.tk_query_nearest.specs.Parts.{missing}
-use Rattle.tk_query_nearest.proofs.RuledOutLemmas.{ruled_out_lacks}
 use Rattle.tk_query_nearest.proofs.ViewLemmas.{none_there, shown_of_all, uncapped, view_there}
 use Rattle.tk_query_nearest.proofs.distances.Distances.at.Goals as goal
 
+pub of_event-requires-clause-lawful : goal.of_event-requires-clause-lawful
+of_event-requires-clause-lawful c =
+    shown_of_all (λ e. is_lawful e.event.kind e.event.payload ≡ true) c.args.«record».now.entries
+    c.args.position c.in-Some.event (c.in-Some.ensures.there.0 refl) c.in-Some.ensures.value
+    c.shows_record.ensures.lawful
+
 pub returns-in-Some-clause-value : goal.returns-in-Some-clause-value
 returns-in-Some-clause-value c =
-    let r = c.args.«record».now in
-    let condition = cond_of c.args.condition.now in
-    let event = c.in-Some.event in
-    let within = c.in-Some.ensures.there.0 refl in
-    let lawful = shown_of_all (λ e. is_lawful e.event.kind e.event.payload ≡ true) r.entries
-    c.args.position event within c.in-Some.ensures.value c.shows_record.ensures.lawful in
-    view_there r condition r.entries c.args.position c.args.most c.args.most event within
-    c.in-Some.ensures.value
-    (uncapped _ _ c.args.most (let fits = c.ranges.most.fits in omega arith)
-    (omega (
-      arith,
-      ruled_out_lacks r (entry_of_view event) lawful condition,
-      c.by.ensures condition c.requires.ruled_out,
-    )))
-
-pub returns-in-Some-2-clause-value : goal.returns-in-Some-2-clause-value
-returns-in-Some-2-clause-value c =
     let r = c.args.«record».now in
     let condition = cond_of c.args.condition.now in
     let event = c.in-Some.event in

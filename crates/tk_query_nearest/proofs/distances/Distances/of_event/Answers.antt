@@ -3,7 +3,31 @@ use Rattle.tk_record.specs.Record.{entry_of_view}
 use Rattle.tk_query_conditions.specs.CondOf.{cond_of}
 use Rattle.tk_query_nearest.specs.declared.counted.Counted.TheVariants.{Others}
 use Rattle.tk_query_nearest.proofs.CountedLemmas.{none_counted, split}
+use Rattle.tk_query_nearest.proofs.RuledOutLemmas.{others_lack, ruled_out_lacks}
 use Rattle.tk_query_nearest.proofs.distances.Distances.of_event.Goals as goal
+
+pub returns-then-ruled_out-most-clause-value : goal.returns-then-ruled_out-most-clause-value
+returns-then-ruled_out-most-clause-value c =
+    let condition = cond_of c.args.condition.now in
+    omega (
+      arith,
+      ruled_out_lacks c.args.«record».now (entry_of_view c.args.event.now) c.requires.lawful
+          condition,
+      c.by-ruled_out.ensures condition c.requires.distances.ruled_out,
+    )
+
+pub returns-then-ruled_out-most-2-clause-value : goal.returns-then-ruled_out-most-2-clause-value
+returns-then-ruled_out-most-2-clause-value c =
+    let r = c.args.«record».now in
+    let condition = cond_of c.args.condition.now in
+    let e = entry_of_view c.args.event.now in
+    omega (
+      arith,
+      c.in_ok-known.ensures.value,
+      others_lack r e c.requires.lawful condition,
+      c.by-ruled_out.ensures condition c.requires.distances.ruled_out,
+      split r condition e,
+    )
 
 pub returns-then-not-self-clause-value : goal.returns-then-not-self-clause-value
 returns-then-not-self-clause-value c =
