@@ -1,5 +1,5 @@
 -- The members of a condition that are counted.
-use Rattle.std.proofs.Common.{◌≡◌, ℕ, ◌+◌, ◌≤◌, min, Bool, true, false, cond, not, ◌&&◌, ◌||◌, Some, nat_eq, refl, sym, ap, ap₂, ◌∙◌, subst, arith}
+use Rattle.std.proofs.Common.{◌≡◌, ℕ, ◌+◌, ◌≤◌, min, Bool, true, false, cond, not, ◌&&◌, ◌||◌, [], Some, nat_eq, refl, sym, ap, ap₂, ◌∙◌, subst, arith}
 use Rattle.std.specs.Prelude.{if◌then◌else◌}
 use Rattle.std.specs.Map.{lookup}
 use Rattle.std.proofs.lemmas.Bool.{and_parts, eqb-true, false≢true, or_parts}
@@ -9,10 +9,13 @@ use Rattle.tk_record.specs.Recorded.{Recorded}
 use Rattle.tk_query_conditions.specs.Cond.{Test, Container, Engine, Id, Name, Cond, Plain, With, OfKind, HasSegment, HasPairs, All, Any, Not, Conds, Nothing, More}
 use Rattle.tk_query.specs.Holds.{cond_holds, all_hold, any_holds}
 use Rattle.tk_query_nearest.specs.Parts.{missing, missing_of_all, fewest_missing}
+use Rattle.tk_query_nearest.specs.declared.distances.Count.{Count}
 use Rattle.tk_query_nearest.specs.declared.distances.Distances.{Distances}
 use Rattle.tk_query_nearest.specs.declared.counted.Counted.{Counted}
 use Rattle.tk_query_nearest.specs.declared.counted.Counted.TheVariants.{Every, OfDescriptors, Others}
-use Rattle.tk_query_nearest.specs.steps.Counted.{AreDistances, all_ask_descriptor, asks_descriptor, is_counted, missing_of, missing_of_members, some_counted, some_member_counted}
+use Rattle.tk_query_nearest.specs.declared.texts.TextOf.TheVariants as text_of
+use Rattle.tk_query_nearest.specs.steps.Texts.{AreTexts, asked}
+use Rattle.tk_query_nearest.specs.steps.Counted.{AreDistances, IsCount, all_ask_descriptor, asks_descriptor, is_counted, missing_of, missing_of_members, some_counted, some_member_counted}
 
 -- what is known of all, and of some, with one more
 pub all_before : (old all one new : Bool) → old ≡ all → old ≡ true → new ≡ one → new ≡ (all && one)
@@ -187,40 +190,51 @@ up_to_less r c most less distances le are = record {
   ruled_out = are.ruled_out;
   of_descriptors = are.of_descriptors;
   others = are.others;
-  by_key = λ e n found. lowered n (missing_of OfDescriptors r c e) (are.by_key e n found);
+  by_key = λ e n found.
+      let is = are.by_key e n found in
+      record {
+        least = is.least;
+        whole = λ t. lowered n.least (missing_of OfDescriptors r c e) (is.whole t);
+      };
+  names = are.names;
+  failures = are.failures;
+  aborts = are.aborts;
 }
   where
     lowered : (n m : ℕ) → min n most ≡ min m most → min n less ≡ min m less
     lowered n m is = omega arith
 
 -- the count of one more key
-pub key_counted : (r : Recorded) (c : Cond) (most : ℕ) (old new : Distances) (e : Entry) (count : ℕ)
-    → AreDistances r c most old → count ≡ min (missing_of OfDescriptors r c e) most
+pub key_counted : (r : Recorded) (c : Cond) (most : ℕ) (old new : Distances) (e : Entry)
+    (count : Count) → AreDistances r c most old → IsCount r c most e count
     → new.ruled_out ≡ old.ruled_out → new.some_of_descriptors ≡ old.some_of_descriptors
-    → new.some_others ≡ old.some_others
+    → new.some_others ≡ old.some_others → new.names ≡ old.names → new.failures ≡ old.failures
+    → new.aborts ≡ old.aborts
     → ((key : ℕ) → lookup (nat_eq key) new.by_key.entries
     ≡ cond (nat_eq e.event.key key) (Some count) (lookup (nat_eq key) old.by_key.entries))
     → AreDistances r c most new
-key_counted r c most old new e count are is ruled_out of_descriptors others found = record {
-  ruled_out = ruled_out ∙ are.ruled_out;
-  of_descriptors = of_descriptors ∙ are.of_descriptors;
-  others = others ∙ are.others;
-  by_key = λ f n at. by f n at (nat_eq e.event.key f.event.key) refl;
-}
+key_counted r c most old new e count are is ruled_out descriptors others names failures aborts put =
+    record {
+      ruled_out = ruled_out ∙ are.ruled_out;
+      of_descriptors = descriptors ∙ are.of_descriptors;
+      others = others ∙ are.others;
+      by_key = λ f n at. by f n at (nat_eq e.event.key f.event.key) refl;
+      names = subst (AreTexts (asked text_of.Name c [])) (sym names) are.names;
+      failures = subst (AreTexts (asked text_of.Failure c [])) (sym failures) are.failures;
+      aborts = subst (AreTexts (asked text_of.Abort c [])) (sym aborts) are.aborts;
+    }
   where
-    capped : (n m : ℕ) → n ≡ min m most → min n most ≡ min m most
-    capped n m is = omega arith
-
-    by : (f : Entry) (n : ℕ) → lookup (nat_eq f.event.key) new.by_key.entries ≡ Some n → (b : Bool)
-        → nat_eq e.event.key f.event.key ≡ b
-        → min n most ≡ min (missing_of OfDescriptors r c f) most
+    by : (f : Entry) (n : Count) → lookup (nat_eq f.event.key) new.by_key.entries ≡ Some n
+        → (b : Bool) → nat_eq e.event.key f.event.key ≡ b → IsCount r c most f n
     by f n at true same =
         let here : count ≡ n = same_Some count n
-        (sym (found f.event.key ∙ ap (λ (t : Bool). cond t (Some count)
+        (sym (put f.event.key ∙ ap (λ (t : Bool). cond t (Some count)
         (lookup (nat_eq f.event.key) old.by_key.entries)) same) ∙ at) in
-        capped n (missing_of OfDescriptors r c f)
-        (sym here ∙ is ∙ ap (λ m. min m most)
-        (descriptor_same r e f (eqb-true e.event.key f.event.key same) c))
+        let missing_is = descriptor_same r e f (eqb-true e.event.key f.event.key same) c in
+        subst (IsCount r c most f) here (record {
+          least = subst (λ m. count.least ≤ m) missing_is is.least;
+          whole = λ t. is.whole t ∙ ap (λ m. min m most) missing_is;
+        })
     by f n at false other =
-        are.by_key f n (sym (found f.event.key ∙ ap (λ (t : Bool). cond t (Some count)
+        are.by_key f n (sym (put f.event.key ∙ ap (λ (t : Bool). cond t (Some count)
         (lookup (nat_eq f.event.key) old.by_key.entries)) other) ∙ at)

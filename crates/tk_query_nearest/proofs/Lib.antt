@@ -10,3 +10,5 @@ pub mod ViewLemmas
 pub mod RankLemmas
 pub mod CandidateLemmas
 pub mod NearestIsUnique
+pub mod TextLemmas
+pub mod AskedLemmas

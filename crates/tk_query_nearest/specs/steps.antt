@@ -1,3 +1,4 @@
 pub mod Candidates
 pub mod RuledOut
 pub mod Counted
+pub mod Texts

@@ -9,6 +9,7 @@ pub mod laws;
 mod parts;
 mod ruled_out;
 mod search;
+mod texts;
 
 pub use candidates::{MAX_NEAREST, Nearest};
 pub use lacking::lacking_text;

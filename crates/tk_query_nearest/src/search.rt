@@ -26,7 +26,7 @@ pub fn nearest(
     ensures { IfOk result (λ found. IsNearest events.now first (cond_of condition.now) found) }
 {
     let record = events.record();
-    let mut distances = Distances::new(alloc, condition);
+    let mut distances = Distances::new(alloc, condition)?;
     let mut candidates = Candidates::Empty;
     let mut low = first;
     'events: while let Some(position) = events.flags().first_from(low) {

@@ -15,7 +15,7 @@ use Rattle.tk_query_nearest.proofs.search.nearest.Goals.{then-admits, else-admit
 pub events-init : goal.events-init
 events-init c = record {
   nearest = search rules;
-  distances = c.new-distances.ensures _ _;
+  distances = c.in_ok-distances.ensures _ _;
 }
 
 pub events-preserved : goal.events-preserved

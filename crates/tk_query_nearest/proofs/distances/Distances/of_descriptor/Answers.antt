@@ -14,5 +14,7 @@ returns-then-not-self-clause-value c =
 pub returns-clause-kept : goal.returns-clause-kept
 returns-clause-kept c =
     key_counted c.args.«record».now (cond_of c.args.condition.now) c.args.most c.args.self.now _
-    (entry_of_view c.args.event.now) c.distance_up_to-count.result c.requires
-    c.distance_up_to-count.ensures refl refl refl c.in_ok-insert.ensures.updates.0
+    (entry_of_view c.args.event.now) _ c.requires (record {
+      least = omega (arith, c.distance_up_to-least.ensures);
+      whole = λ t. omega (arith, c.distance_up_to-least.ensures);
+    }) refl refl refl refl refl refl c.in_ok-insert.ensures.updates.0
