@@ -2,7 +2,7 @@
 #![tactic(auto)]
 
 #[cfg(test)]
-mod faults;
+mod answers;
 #[cfg(test)]
 mod faulty_nodes;
 #[cfg(test)]
@@ -13,5 +13,3 @@ mod plans;
 mod refusals;
 #[cfg(test)]
 mod shown_plans;
-#[cfg(test)]
-mod table_locks;

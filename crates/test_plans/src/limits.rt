@@ -1,21 +1,8 @@
 //! Plans in code at their limits, and one beyond.
+use crate::answers::{is_plan, is_refused};
 use std::alloc::{AllocError, Global};
 use tk_ids::LockMode;
 use tk_plan_code::PlanNode;
-use tk_plan_reading::build_plan;
-
-// Whether a plan is built, or the fault that is shown so is answered.
-fn is_answered(
-    alloc: Global,
-    node: Result<PlanNode<'_>, AllocError>,
-    answer: &str,
-) -> Result<bool, AllocError> {
-    let node = node?;
-    match build_plan(alloc, &node) {
-        Ok(_) => Ok(answer == "a plan"),
-        Err(why) => Ok(format!(in alloc; "{:?}", why.fault)?.as_str() == answer),
-    }
-}
 
 // A test at the bottom of a chain of nodes, `levels` levels in all.
 fn chain(alloc: Global, levels: u32) -> Result<PlanNode<'static>, AllocError> {
@@ -27,10 +14,13 @@ fn chain(alloc: Global, levels: u32) -> Result<PlanNode<'static>, AllocError> {
 }
 
 #[test]
-fn levels(rt: HostRuntime) {
+fn levels(rt: HostRuntime) -> Result<(), AllocError> {
     let alloc = rt.alloc();
-    assert!(rt; matches!(is_answered(alloc, chain(alloc, 60), "a plan"), Ok(true)));
-    assert!(rt; matches!(is_answered(alloc, chain(alloc, 61), "Deep"), Ok(true)));
+    assert!(rt; is_plan(alloc, chain(alloc, 60))?);
+    let above = "[c:c]/".repeat(alloc, 60)?;
+    let deep = format!(in alloc; "plan too deep, at node {above}[t:t]")?;
+    assert!(rt; is_refused(alloc, chain(alloc, 61), deep.as_str())?);
+    Ok(())
 }
 
 fn numbers(alloc: Global, count: u32) -> Result<Vec<String>, AllocError> {
@@ -59,45 +49,52 @@ fn wide<'t>(
     Ok(root)
 }
 
-fn is_wide(alloc: Global, count: u32, is_static: bool, answer: &str) -> Result<bool, AllocError> {
-    let values = numbers(alloc, count)?;
-    is_answered(alloc, wide(alloc, values.as_slice(), is_static), answer)
+// Whether a root may have tests with all of these values but the last one below it, and no more.
+fn is_one_too_many(alloc: Global, values: &[String], is_static: bool) -> Result<bool, AllocError> {
+    let Some((last, most)) = values.split_last() else {
+        return Ok(false);
+    };
+    let full = format!(in alloc; "plan table is refused, at node [engine:e]/[t:{last}]")?;
+    Ok(
+        is_plan(alloc, wide(alloc, most, is_static))?
+            && is_refused(alloc, wide(alloc, values, is_static), full.as_str())?,
+    )
 }
 
 // The root is static too.
 #[test]
-fn static_nodes(rt: HostRuntime) {
-    let alloc = rt.alloc();
-    assert!(rt; matches!(is_wide(alloc, 65_535, true, "a plan"), Ok(true)));
-    assert!(rt; matches!(is_wide(alloc, 65_536, true, "Table(Full)"), Ok(true)));
+fn static_nodes(rt: HostRuntime) -> Result<(), AllocError> {
+    let values = numbers(rt.alloc(), 65_536)?;
+    assert!(rt; is_one_too_many(rt.alloc(), values.as_slice(), true)?);
+    Ok(())
 }
 
 #[test]
-fn dynamic_nodes(rt: HostRuntime) {
-    let alloc = rt.alloc();
-    assert!(rt; matches!(is_wide(alloc, 65_536, false, "a plan"), Ok(true)));
-    assert!(rt; matches!(is_wide(alloc, 65_537, false, "Table(Full)"), Ok(true)));
+fn dynamic_nodes(rt: HostRuntime) -> Result<(), AllocError> {
+    let values = numbers(rt.alloc(), 65_537)?;
+    assert!(rt; is_one_too_many(rt.alloc(), values.as_slice(), false)?);
+    Ok(())
 }
 
-// A root with a lock of each of these keys, and of `global`.
-fn locked<'t>(alloc: Global, keys: &'t [String]) -> Result<PlanNode<'t>, AllocError> {
+// A test with a lock of each of these keys, and of `global`.
+fn locked(alloc: Global, keys: &[&'static str]) -> Result<PlanNode<'static>, AllocError> {
     let mut root = PlanNode::test(alloc, ("engine", "e"), "e").lock("global", LockMode::Read)?;
     for key in keys {
-        root = root.lock(key.as_str(), LockMode::ReadWrite)?;
+        root = root.lock(*key, LockMode::ReadWrite)?;
     }
     Ok(root)
 }
 
-fn is_locked(alloc: Global, count: u32, answer: &str) -> Result<bool, AllocError> {
-    let keys = numbers(alloc, count)?;
-    is_answered(alloc, locked(alloc, keys.as_slice()), answer)
-}
-
 #[test]
-fn resources(rt: HostRuntime) {
+fn resources(rt: HostRuntime) -> Result<(), AllocError> {
     let alloc = rt.alloc();
-    assert!(rt; matches!(is_locked(alloc, 15, "a plan"), Ok(true)));
-    assert!(rt; matches!(is_locked(alloc, 16, "TooManyResources"), Ok(true)));
+    let keys = [
+        "1", "2", "3", "4", "5", "6", "7", "8", "9", "10", "11", "12", "13", "14", "15", "16",
+    ];
+    assert!(rt; is_plan(alloc, locked(alloc, &keys[..15]))?);
+    let many = "too many resources, at node [engine:e]";
+    assert!(rt; is_refused(alloc, locked(alloc, &keys), many)?);
+    Ok(())
 }
 
 // A test that publishes `count` entries without pairs.
@@ -110,18 +107,9 @@ fn publishing(alloc: Global, count: u32) -> Result<PlanNode<'static>, AllocError
 }
 
 #[test]
-fn events(rt: HostRuntime) {
+fn events(rt: HostRuntime) -> Result<(), AllocError> {
     let alloc = rt.alloc();
-    assert!(rt;
-        matches!(
-            is_answered(alloc, publishing(alloc, 1_048_574), "a plan"),
-            Ok(true)
-        )
-    );
-    assert!(rt;
-        matches!(
-            is_answered(alloc, publishing(alloc, 1_048_575), "TooManyEvents"),
-            Ok(true)
-        )
-    );
+    assert!(rt; is_plan(alloc, publishing(alloc, 1_048_574))?);
+    assert!(rt; is_refused(alloc, publishing(alloc, 1_048_575), "too many events")?);
+    Ok(())
 }

@@ -1,15 +1,15 @@
-//! Building the demo plan, with ample memory and with any one request for memory refused. What is
-//! refused is asked once more, and then it has to succeed.
-use crate::plans::demo;
+//! Building the plan with each member, with ample memory and with any one request for memory
+//! refused. What is refused is asked once more, and then it has to succeed.
+use crate::plans::each_member;
 use std::alloc::Global;
 use tk_plan_json_members::PlanFault;
 use tk_plan_reading::{BuildFault, build_plan};
 
 // Whether the plan was built, where memory was not refused.
 fn built(alloc: Global) -> Result<bool, BuildFault> {
-    let root = demo(alloc)?;
+    let root = each_member(alloc)?;
     let plan = build_plan(alloc, &root)?;
-    Ok(plan.total_events() == 16)
+    Ok(plan.total_events() == 18)
 }
 
 #[test]
@@ -17,7 +17,7 @@ fn a_plan_in_code(rt: HostRuntime) {
     let first = built(rt.alloc());
     assert!(rt;
         match &first {
-            Ok(is_demo) => *is_demo,
+            Ok(has_all) => *has_all,
             Err(why) => matches!(why.fault, PlanFault::Memory) && why.node.is_none(),
         }
     );
