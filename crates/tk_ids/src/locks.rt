@@ -4,6 +4,7 @@ ghost use Rattle.std.specs.Prelude.{◌≤◌, true, false, slice_index_or, byte
 ghost use Rattle.tk_ids.specs.declared.locks.Lock.{Lock};
 ghost use Rattle.std.specs.List.Sorted.{IsPartitionPoint};
 ghost use Rattle.tk_ids.specs.steps.Table.{added};
+ghost use Rattle.tk_ids.specs.KeptLocks.{kept_locks};
 ghost use Rattle.tk_ids.specs.Locks.{AreLocks, is_before, mode_of, mode_with, stronger};
 
 use crate::texts::Text;
@@ -55,6 +56,13 @@ impl Lock {
     }
 }
 
+// Whether a lock comes before one of this name.
+fn is_before(lock: &Lock, name: &str) -> bool
+    ensures { result ≡ is_before lock.now.name name.now }
+{
+    lock.name.as_str() < name
+}
+
 // How many locks come before one of this name.
 fn place_of(locks: &[Lock], name: &str) -> usize
     requires { AreLocks locks.now }
@@ -62,7 +70,7 @@ fn place_of(locks: &[Lock], name: &str) -> usize
     ensures place { IsPartitionPoint (λ l. is_before l.name name.now ≡ true)
         (λ l. is_before l.name name.now ≡ false) locks.now result }
 {
-    locks.partition_point(|lock| lock.name.as_str() < name)
+    locks.partition_point(|lock| is_before(lock, name))
 }
 
 // Whether the lock at this place has this name.
@@ -102,6 +110,13 @@ fn copy_locks(alloc: Global, locks: &[Lock]) -> Result<Vec<Lock>, AllocError>
         copied.push(lock.try_clone()?)?;
     }
     Ok(copied)
+}
+
+// Keeps one lock alone.
+fn only(alloc: Global, lock: Lock) -> Result<Option<Box<Vec<Lock>>>, AllocError>
+    ensures { IfOk result (λ items. kept_locks items ≡ lock ∷ []) }
+{
+    Ok(Some(Box::new(alloc, vec![in alloc; lock]?)?))
 }
 
 /// The locks of a descriptor, in the order of their names' bytes. No two have one name, and no name
@@ -168,7 +183,7 @@ impl Locks {
         ensures err { OnErr result (self.new ≡ self.old) }
     {
         match &mut self.items {
-            None => self.items = Some(Box::new(alloc, vec![in alloc; lock]?)?),
+            None => self.items = only(alloc, lock)?,
             Some(items) => add_to(items, lock)?,
         }
         Ok(())
@@ -184,7 +199,7 @@ impl Locks {
         ensures err { OnErr result (self.new ≡ self.old) }
     {
         match &mut self.items {
-            None => self.items = Some(Box::new(alloc, vec![in alloc; lock]?)?),
+            None => self.items = only(alloc, lock)?,
             Some(items) => items.push(lock)?,
         }
         Ok(())

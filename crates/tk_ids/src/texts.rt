@@ -1,5 +1,5 @@
 //! Texts that contracts see as their bytes.
-ghost use Rattle.std.specs.Prelude.{◌≡◌, ◌==◌, ◌++◌, ℕ, List, length, IfOk, string_bytes, IsTrue, IsUtf8};
+ghost use Rattle.std.specs.Prelude.{◌≡◌, ◌==◌, ◌++◌, ℕ, List, length, IfOk, IfSome, string_bytes, IsTrue, IsUtf8};
 ghost use Rattle.std.specs.Prelude.{nat_eq, Some, refl};
 ghost use Rattle.std.specs.Ordering.{nat_cmp};
 ghost use Rattle.std.specs.Cmp;
@@ -23,6 +23,29 @@ enum Storage {
     // In the value itself, which then has no memory of its own.
     Inline(ArrayString<INLINE_BYTES>),
     Heap(String),
+}
+
+// Joins two texts in a value, where they fit into it.
+fn join_inline(first: &str, second: &str) -> Option<ArrayString<INLINE_BYTES>>
+    ensures { IfSome result (λ string. string.bytes ≡ first.now ++ second.now) }
+{
+    if INLINE_BYTES < first.len().saturating_add(second.len()) {
+        return None;
+    }
+    let mut string = ArrayString::new();
+    string.push_str(first);
+    string.push_str(second);
+    Some(string)
+}
+
+// Joins two texts in memory of their own.
+fn join_on_heap(alloc: Global, first: &str, second: &str) -> Result<String, AllocError>
+    ensures { IfOk result (λ string. string_bytes string ≡ first.now ++ second.now) }
+{
+    let mut string = String::with_capacity(alloc, first.len().saturating_add(second.len()))?;
+    string.push_str(first)?;
+    string.push_str(second)?;
+    Ok(string)
 }
 
 /// A text in UTF-8. Contracts see it as the list of its bytes.
@@ -59,19 +82,11 @@ impl Text {
     pub(crate) fn join(alloc: Global, first: &str, second: &str) -> Result<Text, AllocError>
         ensures { IfOk result (λ t. t ≡ first.now ++ second.now) }
     {
-        let length = first.len().saturating_add(second.len());
-        if length <= INLINE_BYTES {
-            let mut string = ArrayString::new();
-            string.push_str(first);
-            string.push_str(second);
-            return Ok(Text {
-                storage: Storage::Inline(string),
-            });
-        }
-        let mut string = String::with_capacity(alloc, length)?;
-        string.push_str(first)?;
-        string.push_str(second)?;
-        Ok(Text::from(string))
+        let storage = match join_inline(first, second) {
+            Some(string) => Storage::Inline(string),
+            None => Storage::Heap(join_on_heap(alloc, first, second)?),
+        };
+        Ok(Text { storage })
     }
 
     /// Makes a text of bytes that are UTF-8, which it keeps.
