@@ -1,126 +1,69 @@
-//! Conditions under JUnit's names, and texts of conditions that are written.
+//! Conditions under JUnit's names, and long texts of conditions.
 use std::alloc::{AllocError, Global};
 use tk_query_conditions::{Condition, read_condition, write_condition};
 
-fn is_written_as(alloc: Global, condition: &Condition, text: &str) -> bool {
-    match write_condition(alloc, condition) {
-        Ok(written) => written.as_str() == text,
-        Err(_) => false,
-    }
+// Whether a constructor's condition has this text; none where memory was refused.
+fn is_made_as(alloc: Global, made: Result<Condition, AllocError>, text: &str) -> Option<bool> {
+    let written = write_condition(alloc, &made.ok()?).ok()?;
+    Some(written.as_str() == text)
+}
+
+// Whether the conditions on descriptors have their texts.
+fn name_descriptors(alloc: Global) -> Option<bool> {
+    let test = is_made_as(alloc, Condition::test(alloc, "x"), "all(test,id(x))")?;
+    let container = Condition::container(alloc, "x");
+    let container = is_made_as(alloc, container, "all(container,id(x))")?;
+    let dynamic = Condition::dynamic_test_registered(alloc, "x");
+    let dynamic = is_made_as(alloc, dynamic, "all(kind(dynamic),id(x))")?;
+    let name = Condition::display_name(alloc, "a(b)");
+    let name = is_made_as(alloc, name, "name(a%28b%29)")?;
+    let segment = Condition::segment(alloc, "t", "a,b");
+    let segment = is_made_as(alloc, segment, "segment(t,a%2Cb)")?;
+    Some(test && container && dynamic && name && segment)
+}
+
+// Whether the conditions on finishes and skips have their texts.
+fn name_ends(alloc: Global) -> Option<bool> {
+    let failed = Condition::finished_with_failure(alloc, Some(""));
+    let failed = is_made_as(alloc, failed, "failed()")?;
+    let aborted = Condition::aborted_with_reason(alloc, None);
+    let aborted = is_made_as(alloc, aborted, "aborted")?;
+    let skipped = Condition::skipped_with_reason(alloc, "off");
+    let skipped = is_made_as(alloc, skipped, "skipped(off)")?;
+    let message = Condition::message_contains(alloc, "m");
+    let message = is_made_as(alloc, message, "message(m)")?;
+    let succeeded = Ok(Condition::finished_successfully());
+    let succeeded = is_made_as(alloc, succeeded, "succeeded")?;
+    Some(failed && aborted && skipped && message && succeeded)
+}
+
+// The event of a test that finished, as a list of two conditions.
+fn finished_test(alloc: Global) -> Result<Condition, AllocError> {
+    let both = vec![in alloc; Condition::Test, Condition::finished_successfully()]?;
+    Ok(Condition::event(both))
+}
+
+// Whether the conditions on entries and files, and on a whole event, have their texts.
+fn name_others(alloc: Global) -> Option<bool> {
+    let entry = Condition::report_entry(alloc, &[("a", "1,2"), ("b", "")]);
+    let entry = is_made_as(alloc, entry, "entry(a,1%2C2,b,)")?;
+    let file = Condition::file_entry(alloc, "out/log.txt");
+    let file = is_made_as(alloc, file, "file(out/log.txt)")?;
+    let event = is_made_as(alloc, finished_test(alloc), "all(test,succeeded)")?;
+    Some(entry && file && event)
+}
+
+/// Whether each constructor's condition has its text; none where memory was refused.
+pub(crate) fn make_conditions(alloc: Global) -> Option<bool> {
+    Some(name_descriptors(alloc)? && name_ends(alloc)? && name_others(alloc)?)
 }
 
 // Whether a text is read, and written again as it was.
 fn is_written_again(alloc: Global, text: &str) -> bool {
     match read_condition(alloc, text) {
-        Ok(condition) => is_written_as(alloc, &condition, text),
+        Ok(condition) => is_made_as(alloc, Ok(condition), text) == Some(true),
         Err(_) => false,
     }
-}
-
-// Texts with atoms and groups of each form, escapes, and empty lists and texts.
-fn texts() -> &'static str {
-    "all(test,any(),not(failed(a%28b%29%2C%25é)),entry(k,v,,),kind(skip))
-any(all(),container,engine,started,succeeded,failed,aborted,aborted(),failed(m))
-not(any(id([engine:e]/[t:1]),name(one),skipped(),file(out/log.txt),entry(),kind(dynamic)))
-any(segment(t%2C,1),segment(,),message(),message(b%28))
-"
-}
-
-#[test]
-fn texts_written_again(rt: HostRuntime) {
-    for text in texts().lines() {
-        assert!(rt; is_written_again(rt.alloc(), text), "{text}");
-    }
-}
-
-// Whether a constructor's condition has this text.
-fn is_made_as(alloc: Global, made: Result<Condition, AllocError>, text: &str) -> bool {
-    match made {
-        Ok(condition) => is_written_as(alloc, &condition, text),
-        Err(_) => false,
-    }
-}
-
-// Whether the conditions on descriptors have their texts.
-fn name_descriptors(alloc: Global) -> bool {
-    is_made_as(alloc, Condition::test(alloc, "x"), "all(test,id(x))")
-        && is_made_as(
-            alloc,
-            Condition::container(alloc, "x"),
-            "all(container,id(x))",
-        )
-        && is_made_as(
-            alloc,
-            Condition::dynamic_test_registered(alloc, "x"),
-            "all(kind(dynamic),id(x))",
-        )
-        && is_made_as(
-            alloc,
-            Condition::display_name(alloc, "a(b)"),
-            "name(a%28b%29)",
-        )
-}
-
-// Whether the conditions on finishes and entries have their texts.
-fn name_ends(alloc: Global) -> bool {
-    is_made_as(
-        alloc,
-        Condition::finished_with_failure(alloc, None),
-        "failed",
-    ) && is_made_as(
-        alloc,
-        Condition::finished_with_failure(alloc, Some("")),
-        "failed()",
-    ) && is_made_as(
-        alloc,
-        Condition::aborted_with_reason(alloc, Some("m")),
-        "aborted(m)",
-    ) && is_made_as(
-        alloc,
-        Condition::report_entry(alloc, &[("a", "1,2"), ("b", "")]),
-        "entry(a,1%2C2,b,)",
-    )
-}
-
-// Whether the conditions on skips, files and empty entries have their texts.
-fn name_others(alloc: Global) -> bool {
-    is_made_as(
-        alloc,
-        Condition::skipped_with_reason(alloc, "off"),
-        "skipped(off)",
-    ) && is_made_as(
-        alloc,
-        Condition::file_entry(alloc, "out/log.txt"),
-        "file(out/log.txt)",
-    ) && is_made_as(alloc, Condition::report_entry(alloc, &[]), "entry()")
-        && is_written_as(alloc, &Condition::finished_successfully(), "succeeded")
-}
-
-// Whether the conditions that JUnit has no name for have their texts.
-fn name_further(alloc: Global) -> bool {
-    is_made_as(
-        alloc,
-        Condition::segment(alloc, "t", "a,b"),
-        "segment(t,a%2Cb)",
-    ) && is_made_as(alloc, Condition::message_contains(alloc, "m"), "message(m)")
-}
-
-// The event of a test that finished, as a list of two conditions.
-fn finished_test(alloc: Global) -> Result<Condition, AllocError> {
-    let mut both = Vec::new(alloc);
-    both.push(Condition::Test)?;
-    both.push(Condition::finished_successfully())?;
-    Ok(Condition::event(both))
-}
-
-#[test]
-fn conditions_by_name(rt: HostRuntime) {
-    assert!(rt; name_descriptors(rt.alloc()));
-    assert!(rt; name_ends(rt.alloc()));
-    assert!(rt; name_others(rt.alloc()));
-    assert!(rt; name_further(rt.alloc()));
-    let event = finished_test(rt.alloc());
-    assert!(rt; is_made_as(rt.alloc(), event, "all(test,succeeded)"));
 }
 
 // A text of `count` units between a head and a tail.
@@ -139,19 +82,13 @@ fn repeated(
     Ok(text)
 }
 
-fn is_long_written_again(alloc: Global, text: Result<String, AllocError>) -> bool {
-    match text {
-        Ok(text) => is_written_again(alloc, text.as_str()),
-        Err(_) => false,
-    }
-}
-
 /// Texts have no limit: an atom of more than 1 MiB, and 65,536 atoms in a list.
 #[test]
-fn long_conditions(rt: HostRuntime) {
+fn long_conditions(rt: HostRuntime) -> Result<(), AllocError> {
     let alloc = rt.alloc();
-    let name = repeated(alloc, "name(", "abcdefgh", 150_000, ")");
-    assert!(rt; is_long_written_again(alloc, name));
-    let list = repeated(alloc, "any(test", ",started", 65_535, ")");
-    assert!(rt; is_long_written_again(alloc, list));
+    let name = repeated(alloc, "name(", "abcdefgh", 150_000, ")")?;
+    assert!(rt; is_written_again(alloc, name.as_str()));
+    let list = repeated(alloc, "any(test", ",started", 65_535, ")")?;
+    assert!(rt; is_written_again(alloc, list.as_str()));
+    Ok(())
 }

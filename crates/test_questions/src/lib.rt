@@ -1,4 +1,5 @@
-//! What is asked of records: selections, conditions, matches, executions and reports.
+//! What is asked of records, where the program can't show it: calls that only the library has, long
+//! lists, devices that break, and refused memory.
 #![tactic(auto)]
 
 #[cfg(test)]
@@ -8,18 +9,10 @@ mod devices;
 #[cfg(test)]
 mod executions;
 #[cfg(test)]
-mod explanations;
-#[cfg(test)]
 mod faults;
 #[cfg(test)]
 mod long_records;
 #[cfg(test)]
-mod matches;
-#[cfg(test)]
 mod refusals;
-#[cfg(test)]
-mod reports;
-#[cfg(test)]
-mod requests;
 #[cfg(test)]
 mod selections;

@@ -5,21 +5,26 @@ use tk_query::{Exact, InOrder, Loose, match_exactly, match_in_order, match_loose
 use tk_query_conditions::Condition;
 use tk_record::{Events, Record};
 
-fn is_of_length(events: &Result<Events<'_>, AllocError>, count: usize) -> bool {
-    matches!(events, Ok(events) if events.count() == count)
+fn is_of_length(events: Result<Events<'_>, AllocError>, count: usize) -> bool {
+    match events {
+        Ok(events) => events.count() == count,
+        Err(_) => false,
+    }
 }
 
-// Whether all of a record's events are of worker 0 and key 0, and are starts.
-fn are_starts(alloc: Global, events: &Events<'_>, count: usize) -> bool {
-    is_of_length(&events.by_worker(alloc, 0), count)
-        && is_of_length(&events.by_key(alloc, 0), count)
-        && is_of_length(&select(alloc, events, &Condition::Started), count)
-        && is_of_length(&events.by_worker(alloc, 15), 0)
+// Whether all of the events are of worker 0 and key 0, and are starts.
+fn are_starts(alloc: Global, events: &Events<'_>) -> bool {
+    let count = events.count();
+    is_of_length(events.by_worker(alloc, 0), count)
+        && is_of_length(events.by_worker(alloc, 15), 0)
+        && is_of_length(events.by_key(alloc, 0), count)
+        && is_of_length(select(alloc, events, &Condition::Started), count)
 }
 
+// Whether a record of starts has so many.
 fn has_starts(alloc: Global, record: &Record, count: usize) -> bool {
     match Events::all(alloc, record) {
-        Ok(events) => events.count() == count && are_starts(alloc, &events, count),
+        Ok(events) => events.count() == count && are_starts(alloc, &events),
         Err(_) => false,
     }
 }
@@ -34,7 +39,7 @@ fn two_million_starts(rt: HostRuntime) {
     assert!(rt; hold);
 }
 
-// This number of conditions, each of which holds of a start.
+// Conditions of this number, each of which holds of a start.
 fn conditions(alloc: Global, count: usize) -> Result<Vec<Condition>, AllocError> {
     let mut list = Vec::new(alloc);
     for _ in 0..count {
@@ -50,55 +55,39 @@ fn are_first_positions(positions: &[usize], count: usize) -> bool {
         && positions.last().copied() == count.checked_sub(1)
 }
 
-// Whether the events are the first `count` of their record.
+// Whether the events are the first ones of their record, as many as that.
 fn are_first_events(alloc: Global, events: &Events<'_>, count: usize) -> bool {
     matches!(events.positions(alloc), Ok(at) if are_first_positions(at.as_slice(), count))
 }
 
+// Whether conditions match in order at the first positions, one at each.
+fn match_first(in_order: Result<InOrder, AllocError>, count: usize) -> bool {
+    matches!(in_order, Ok(InOrder::Yes(at)) if are_first_positions(at.as_slice(), count))
+}
+
 // Whether as many conditions as there are starts hold of them, one of each.
 fn match_each(alloc: Global, events: &Events<'_>, list: &[Condition]) -> bool {
-    let in_order = match_in_order(alloc, events, list);
-    match_exactly(alloc, events, list) == Ok(Exact::Yes)
+    are_first_events(alloc, events, list.len())
+        && match_exactly(alloc, events, list) == Ok(Exact::Yes)
         && match_loosely(alloc, events, list) == Ok(Loose::Yes)
-        && matches!(in_order, Ok(InOrder::Yes(at)) if are_first_positions(at.as_slice(), list.len()))
+        && match_first(match_in_order(alloc, events, list), list.len())
 }
 
-// Whether there are as many starts as conditions, the first of their record, and they match.
-fn are_first_and_matched(alloc: Global, events: &Events<'_>, list: &[Condition]) -> bool {
-    are_first_events(alloc, events, list.len()) && match_each(alloc, events, list)
-}
-
-fn each_start_is_matched(alloc: Global, record: &Record, count: usize) -> Result<bool, AllocError> {
-    let list = conditions(alloc, count)?;
-    Ok(are_first_and_matched(alloc, &Events::all(alloc, record)?, list.as_slice()))
-}
-
-// Whether a record of this number of starts matches as many conditions.
-fn matches_as_many(alloc: Global, count: usize) -> bool {
-    match starts(alloc, count as u64) {
-        Some(record) => each_start_is_matched(alloc, &record, count) == Ok(true),
-        None => false,
+// Whether the starts of a record match as many conditions.
+fn are_matched(alloc: Global, record: &Record, list: &[Condition]) -> bool {
+    match Events::all(alloc, record) {
+        Ok(events) => match_each(alloc, &events, list),
+        Err(_) => false,
     }
 }
 
 #[test]
-fn many_conditions(rt: HostRuntime) {
-    assert!(rt; matches_as_many(rt.alloc(), 65));
-    assert!(rt; matches_as_many(rt.alloc(), 65_536));
-}
-
-// Whether no event is left where the starts are left out.
-fn no_other_is_selected(alloc: Global, record: &Record) -> Result<bool, AllocError> {
-    let events = Events::all(alloc, record)?;
-    let others = Condition::Not(Box::new(alloc, Condition::Started)?);
-    Ok(select(alloc, &events, &others)?.count() == 0)
-}
-
-#[test]
-fn sixty_five_starts(rt: HostRuntime) {
-    let hold = match starts(rt.alloc(), 65) {
-        Some(record) => no_other_is_selected(rt.alloc(), &record) == Ok(true),
+fn many_conditions(rt: HostRuntime) -> Result<(), AllocError> {
+    let list = conditions(rt.alloc(), 65_536)?;
+    let hold = match starts(rt.alloc(), 65_536) {
+        Some(record) => are_matched(rt.alloc(), &record, list.as_slice()),
         None => false,
     };
     assert!(rt; hold);
+    Ok(())
 }

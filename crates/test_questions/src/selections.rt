@@ -1,167 +1,58 @@
-//! Selections of events.
+//! Selections of events, by the calls that have their names.
 use std::alloc::{AllocError, Global};
 use test_support::{record_of, two_tests};
-use tk_query::select;
-use tk_query_conditions::read_condition;
-use tk_record::{Events, Record, Selection};
-use tk_record_text::{read_u8, read_u32};
+use tk_record::Events;
 
-// The text of a record with events of each kind and each status.
-fn each_kind() -> &'static [u8] {
-    b"testkit-record|2\nN|B|[engine:e]|e\nE|1|65536|0|dynamic|T|[d:1]|one\nE|1|65536|1|start\nE|2|0|2|skip|off\nE|3|0|3|finish|ok\nE|3|0|4|finish|abort\nE|3|0|5|finish|fail\nE|3|0|6|report|k|v\nE|3|0|7|file|out/log.txt\n"
+// The text of a record with an event of each kind that the record of two tests lacks.
+fn other_kinds() -> &'static [u8] {
+    b"testkit-record|2\nN|C|[engine:e]|e\nE|1|65536|0|dynamic|T|[engine:e]/[d:1]|one\nE|1|65536|1|finish|abort\nE|15|0|2|report|k|v\nE|15|0|3|file|out/log.txt\n"
 }
 
-// The events of a selection, by the call that has its name.
-fn named<'r>(
-    alloc: Global,
-    events: &Events<'r>,
-    selection: Selection,
-) -> Result<Events<'r>, AllocError> {
-    match selection {
-        Selection::All => events.pick(alloc, selection),
-        Selection::Tests => events.tests(alloc),
-        Selection::Containers => events.containers(alloc),
-        Selection::Skipped => events.skipped(alloc),
-        Selection::Started => events.started(alloc),
-        Selection::Finished => events.finished(alloc),
-        Selection::Aborted => events.aborted(alloc),
-        Selection::Succeeded => events.succeeded(alloc),
-        Selection::Failed => events.failed(alloc),
-        Selection::Reporting => events.reporting(alloc),
-        Selection::Dynamic => events.dynamic(alloc),
-        Selection::Files => events.files(alloc),
-    }
+// Whether these are the events at these positions of their record; none where memory was refused.
+fn are_at(alloc: Global, events: Result<Events<'_>, AllocError>, want: &[usize]) -> Option<bool> {
+    let positions = events.ok()?.positions(alloc).ok()?;
+    Some(positions.as_slice() == want)
 }
 
-fn is_written_as(alloc: Global, positions: &[usize], want: &str) -> bool {
-    match format!(in alloc; "{positions:?}") {
-        Ok(text) => text.as_str() == want,
-        Err(_) => false,
-    }
+// Whether the events of descriptors and of workers are those of the record of two tests.
+fn are_of_two_tests(alloc: Global, events: &Events<'_>) -> Option<bool> {
+    let tests = are_at(alloc, events.tests(alloc), &[1, 2, 3])?;
+    let containers = are_at(alloc, events.containers(alloc), &[0, 4])?;
+    let of_worker = are_at(alloc, events.by_worker(alloc, 1), &[1, 2])?;
+    let of_key = are_at(alloc, events.by_key(alloc, 0), &[0, 4])?;
+    Some(tests && containers && of_worker && of_key)
 }
 
-fn has_positions(alloc: Global, events: &Events<'_>, want: &str) -> bool {
-    match events.positions(alloc) {
-        Ok(positions) => is_written_as(alloc, positions.as_slice(), want),
-        Err(_) => false,
-    }
+// Whether the events of kinds and of statuses are those of the record of two tests.
+fn are_ends_of_two_tests(alloc: Global, events: &Events<'_>) -> Option<bool> {
+    let skipped = are_at(alloc, events.skipped(alloc), &[3])?;
+    let started = are_at(alloc, events.started(alloc), &[0, 1])?;
+    let finished = are_at(alloc, events.finished(alloc), &[2, 4])?;
+    let succeeded = are_at(alloc, events.succeeded(alloc), &[4])?;
+    let failed = are_at(alloc, events.failed(alloc), &[2])?;
+    Some(skipped && started && finished && succeeded && failed)
 }
 
-// Whether these events, if memory was not refused, have these positions.
-fn is_at(alloc: Global, events: Result<Events<'_>, AllocError>, want: &str) -> bool {
-    match events {
-        Ok(events) => has_positions(alloc, &events, want),
-        Err(_) => false,
-    }
+// Whether the events are those of the record of the other kinds.
+fn are_of_other_kinds(alloc: Global, events: &Events<'_>) -> Option<bool> {
+    let dynamic = are_at(alloc, events.dynamic(alloc), &[0])?;
+    let aborted = are_at(alloc, events.aborted(alloc), &[1])?;
+    let reporting = are_at(alloc, events.reporting(alloc), &[2])?;
+    let files = are_at(alloc, events.files(alloc), &[3])?;
+    let of_key = are_at(alloc, events.by_key(alloc, 65_536), &[0, 1])?;
+    Some(dynamic && aborted && reporting && files && of_key)
 }
 
-// The events of a condition; none where the text is no condition.
-fn selected<'r>(
-    alloc: Global,
-    events: &Events<'r>,
-    text: &str,
-) -> Option<Result<Events<'r>, AllocError>> {
-    match read_condition(alloc, text) {
-        Ok(condition) => Some(select(alloc, events, &condition)),
-        Err(_) => None,
-    }
+/// Whether the record of two tests has its events; none where memory was refused.
+pub(crate) fn select_of_two_tests(alloc: Global) -> Option<bool> {
+    let record = record_of(alloc, two_tests())?;
+    let events = Events::all(alloc, &record).ok()?;
+    let ends = are_ends_of_two_tests(alloc, &events)?;
+    Some(ends && are_of_two_tests(alloc, &events)?)
 }
 
-// The events that are named: of a worker, of a key, of a condition, or of a selection; none for another
-// name.
-fn events_of<'r>(
-    alloc: Global,
-    events: &Events<'r>,
-    name: &str,
-) -> Option<Result<Events<'r>, AllocError>> {
-    match name.split_once(':') {
-        Some(("worker", number)) => Some(events.by_worker(alloc, read_u8(number.as_bytes())?)),
-        Some(("key", number)) => Some(events.by_key(alloc, read_u32(number.as_bytes())?)),
-        Some(("select", text)) => selected(alloc, events, text),
-        _ => Some(named(alloc, events, Selection::read(name)?)),
-    }
-}
-
-// Whether the positions in a row are those of the events whose name stands before them.
-fn holds(alloc: Global, events: &Events<'_>, row: &str) -> bool {
-    match row.split_once(' ') {
-        Some((name, want)) => match events_of(alloc, events, name) {
-            Some(found) => is_at(alloc, found, want),
-            None => false,
-        },
-        None => false,
-    }
-}
-
-fn first_other_of<'a>(alloc: Global, events: &Events<'_>, rows: &'a str) -> Option<&'a str> {
-    for row in rows.lines() {
-        if !holds(alloc, events, row) {
-            return Some(row);
-        }
-    }
-    None
-}
-
-fn first_other_in<'a>(alloc: Global, record: &Record, rows: &'a str) -> Option<&'a str> {
-    match Events::all(alloc, record) {
-        Ok(events) => first_other_of(alloc, &events, rows),
-        Err(_) => Some("no events"),
-    }
-}
-
-// The first row that does not hold of a text's record.
-fn first_other<'a>(alloc: Global, text: &[u8], rows: &'a str) -> Option<&'a str> {
-    match record_of(alloc, text) {
-        Some(record) => first_other_in(alloc, &record, rows),
-        None => Some("no record"),
-    }
-}
-
-fn of_two_tests() -> &'static str {
-    "all [0, 1, 2, 3, 4]
-tests [1, 2, 3]
-containers [0, 4]
-skipped [3]
-started [0, 1]
-finished [2, 4]
-aborted []
-succeeded [4]
-failed [2]
-reporting []
-dynamic []
-files []
-worker:0 [0, 4]
-worker:1 [1, 2]
-worker:15 []
-key:0 [0, 4]
-select:succeeded [4]
-select:any(succeeded,aborted) [4]
-select:all() [0, 1, 2, 3, 4]
-select:all(test,not(started)) [2, 3]
-"
-}
-
-fn of_each_kind() -> &'static str {
-    "all [0, 1, 2, 3, 4, 5, 6, 7]
-tests [0, 1, 2, 3, 4, 5, 6, 7]
-containers [2, 3, 4, 5, 6, 7]
-skipped [2]
-started [1]
-finished [3, 4, 5]
-aborted [4]
-succeeded [3]
-failed [5]
-reporting [6]
-dynamic [0]
-files [7]
-worker:3 [3, 4, 5, 6, 7]
-key:65536 [0, 1]
-key:4294967295 []
-"
-}
-
-#[test]
-fn named_events(rt: HostRuntime) {
-    assert_eq!(rt; first_other(rt.alloc(), two_tests(), of_two_tests()), None);
-    assert_eq!(rt; first_other(rt.alloc(), each_kind(), of_each_kind()), None);
+/// Whether the record of the other kinds has its events; none where memory was refused.
+pub(crate) fn select_of_other_kinds(alloc: Global) -> Option<bool> {
+    let record = record_of(alloc, other_kinds())?;
+    are_of_other_kinds(alloc, &Events::all(alloc, &record).ok()?)
 }
