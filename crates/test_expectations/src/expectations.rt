@@ -3,23 +3,37 @@ use std::alloc::Global;
 use std::process::Abort;
 use test_support::{is_debugged_as, two_tests, two_tests_report};
 use tk_expectations::{Expect, Failure};
-use tk_record::Selection;
+use tk_record::{Record, Selection};
 use tk_record_text::read_record;
 use tk_streams::ByteSource;
 
-#[test]
-fn expectations_that_are_met_are_a_chain(rt: HostRuntime) -> Result<(), Failure> {
-    let alloc = rt.alloc();
-    let recorded = read_record(alloc, &mut ByteSource::new(two_tests()))?;
-    Expect::of(alloc, &recorded)
+// Expects of all events of two tests what holds of them.
+fn expect_of_all(expect: Expect<'_>) -> Result<Expect<'_>, Failure> {
+    expect
         .lifecycle()?
-        .loosely(&["failed(boom)", "skipped(off)"])?
+        .loosely(&["failed(boom)", "skipped(off)"])
+}
+
+// Expects of the events of two tests, without their container, what holds of them.
+fn expect_of_tests(expect: Expect<'_>) -> Result<Expect<'_>, Failure> {
+    expect
         .pick(Selection::Tests)
         .stats("started=1 failed=1")?
         .exactly(&["started", "failed(boom)", "skipped(off)"])?
-        .in_order(&["started", "failed"])?
-        .report(str::from_utf8(two_tests_report())?)?;
+        .in_order(&["started", "failed"])
+}
+
+// Expects of the record of two tests what holds of it, as a chain of calls.
+fn meet(alloc: Global, record: &Record, report: &str) -> Result<(), Failure> {
+    let expect = expect_of_all(Expect::of(alloc, record))?;
+    expect_of_tests(expect)?.report(report)?;
     Ok(())
+}
+
+#[test]
+fn expectations_that_are_met_are_a_chain(rt: HostRuntime) -> Result<(), Failure> {
+    let recorded = read_record(rt.alloc(), &mut ByteSource::new(two_tests()))?;
+    meet(rt.alloc(), &recorded, str::from_utf8(two_tests_report())?)
 }
 
 // Asserts that this is shown of an expectation that is not met.

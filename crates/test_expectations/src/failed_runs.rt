@@ -24,14 +24,9 @@ fn recorded_run(fault: RunFault, record: Record, is_complete: bool) -> FailedRun
 
 // Asserts that this is shown of a run that failed.
 fn assert_shown<R: Abort>(rt: &R, alloc: Global, failed: FailedRun, text: &str) {
-    let run: Result<(), FailedRun> = Err(failed);
-    match run.map_err(|failed| Failure::of_run(alloc, &failed)) {
-        Ok(()) => assert!(rt; false, "it did not fail"),
-        Err(failure) => {
-            let is_shown = is_debugged_as(alloc, &failure, text);
-            assert!(rt; is_shown, "{failure:?}");
-        }
-    }
+    let failure = Failure::of_run(alloc, &failed);
+    drop(failed);
+    assert!(rt; is_debugged_as(alloc, &failure, text), "{failure:?}");
 }
 
 // Writes the lines of starts, from the first number up to the second one.
