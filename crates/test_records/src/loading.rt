@@ -1,26 +1,16 @@
 //! Reading sources to their ends, and writing through std.
 use std::alloc::{AllocError, Global};
-use test_support::OneByteSource;
+use test_support::{OneByteSource, is_debugged_as};
 use tk_streams::{
     ByteSource, ByteTarget, LoadFault, Source, StdSource, StdTarget, Target, load, write_all,
 };
 
-// What loading four bytes with a limit answers.
-fn loaded(alloc: Global, limit: usize) -> Result<Vec<u8>, LoadFault> {
-    load(alloc, &mut ByteSource::new(b"four"), limit)
-}
-
-fn is_loaded(alloc: Global, limit: usize) -> bool {
-    match loaded(alloc, limit) {
-        Ok(bytes) => bytes.as_slice() == b"four".as_slice(),
-        Err(_) => false,
-    }
-}
-
 #[test]
 fn four_bytes(rt: HostRuntime) {
-    assert!(rt; matches!(loaded(rt.alloc(), 3), Err(LoadFault::TooLarge)));
-    assert!(rt; is_loaded(rt.alloc(), 4));
+    let three = load(rt.alloc(), &mut ByteSource::new(b"four"), 3);
+    assert!(rt; is_debugged_as(rt.alloc(), &three, "Err(TooLarge)"));
+    let four = load(rt.alloc(), &mut ByteSource::new(b"four"), 4);
+    assert!(rt; is_debugged_as(rt.alloc(), &four, "Ok([102, 111, 117, 114])"));
 }
 
 // Whether loading five bytes with a limit of four, from a source that breaks at some call, has this
@@ -33,28 +23,18 @@ fn has_fault(alloc: Global, breaks_at: usize, want: LoadFault, is_broken: bool) 
 /// The source is not read again once there are more bytes than the limit.
 #[test]
 fn breaks_about_the_limit(rt: HostRuntime) {
-    assert!(rt; has_fault(rt.alloc(), 0, LoadFault::Device, true));
-    assert!(rt; has_fault(rt.alloc(), 1, LoadFault::Device, true));
-    assert!(rt; has_fault(rt.alloc(), 4, LoadFault::Device, true));
-    assert!(rt; has_fault(rt.alloc(), 5, LoadFault::TooLarge, false));
-}
-
-// Whether bytes come through a reader of std as they are, and go through a target of memory so.
-fn is_passed(alloc: Global, bytes: &[u8]) -> bool {
-    let mut target = ByteTarget::new(alloc);
-    match load(alloc, &mut StdSource::new(bytes), 1_200_000) {
-        Ok(loaded) => {
-            write_all(&mut target, loaded.as_slice()).is_ok() && target.bytes() == bytes
-        }
-        Err(_) => false,
+    for breaks_at in [0, 1, 4] {
+        assert!(rt; has_fault(rt.alloc(), breaks_at, LoadFault::Device, true));
     }
+    assert!(rt; has_fault(rt.alloc(), 5, LoadFault::TooLarge, false));
 }
 
 #[test]
 fn many_bytes(rt: HostRuntime) -> Result<(), AllocError> {
-    let mut bytes = Vec::new(rt.alloc());
-    bytes.resize(1_200_000, 7)?;
-    assert!(rt; is_passed(rt.alloc(), bytes.as_slice()));
+    let bytes = Vec::from_elem(rt.alloc(), 7u8, 1_200_000)?;
+    let mut target = ByteTarget::new(rt.alloc());
+    assert!(rt; write_all(&mut target, bytes.as_slice()).is_ok());
+    assert!(rt; target.bytes() == bytes.as_slice());
     Ok(())
 }
 
@@ -68,19 +48,11 @@ fn writes_nothing_first<T: Target>(target: &mut T) -> bool {
     target.write_some(&[]) == Ok(0) && write_all(target, b"ab").is_ok() && !target.is_broken()
 }
 
-fn writer_of_std_writes_nothing_first(alloc: Global) -> bool {
-    let mut written = Vec::new(alloc);
-    writes_nothing_first(&mut StdTarget::new(&mut written))
-}
-
 #[test]
-fn empty_reads(rt: HostRuntime) {
+fn nothing_first(rt: HostRuntime) {
     assert!(rt; reads_nothing_first(&mut ByteSource::new(b"ab")));
     assert!(rt; reads_nothing_first(&mut StdSource::new(b"ab".as_slice())));
-}
-
-#[test]
-fn empty_writes(rt: HostRuntime) {
     assert!(rt; writes_nothing_first(&mut ByteTarget::new(rt.alloc())));
-    assert!(rt; writer_of_std_writes_nothing_first(rt.alloc()));
+    let mut written = Vec::new(rt.alloc());
+    assert!(rt; writes_nothing_first(&mut StdTarget::new(&mut written)));
 }

@@ -1,15 +1,55 @@
-//! Calls on records, with ample memory and with any one request for memory refused. Calls of which
-//! one answers `Memory` are made once more, and then all have to succeed.
-use crate::appending::{Answer, append};
+//! Calls with ample memory and with any one request for memory refused. Calls of which one answers
+//! `Memory` are made once more, and then all have to succeed.
 use std::alloc::Global;
 use test_support::{
-    again_if_refused, is_written, read_again, record_again, start, two_locked_tests, two_tests,
+    Ending, again_if_refused, is_done, is_written, read_again, record_again, start,
+    two_locked_tests, two_tests,
 };
 use tk_events::Entry;
-use tk_ids::Text;
-use tk_record::Record;
+use tk_ids::{DType, Segment, Table, TableFault, Text, UniqueId};
+use tk_record::{AppendFault, Record};
 use tk_record_text::{write_record, write_tail};
 use tk_streams::ByteTarget;
+
+// Whether an id has the segments of its text; none for want of memory.
+fn has_its_segments(alloc: Global) -> Option<bool> {
+    let id = UniqueId::read(alloc, "[engine:e]/[t:a%2Fb%3Ac%25]").ok()?;
+    let segments = id.segments();
+    let last = segments.get(1)?;
+    Some(segments.len() == 2 && last.tag() == "t" && last.value() == "a/b:c%")
+}
+
+#[test]
+fn reading_an_id_with_escapes(rt: HostRuntime) {
+    let answer = again_if_refused(|| has_its_segments(rt.alloc()));
+    assert_eq!(rt; answer, Some(true));
+}
+
+// The segment of this number; none for want of memory.
+fn numbered(alloc: Global, number: u32) -> Option<Segment> {
+    Segment::new(alloc, "t", number.to_string(alloc).ok()?.as_str()).ok()
+}
+
+// Adds a root. Where memory is refused, the table is as long as before.
+fn added(alloc: Global, table: &mut Table, number: u32) -> Ending {
+    let Some(segment) = numbered(alloc, number) else {
+        return Ending::Refused;
+    };
+    let before = table.len();
+    match table.add(alloc, None, &segment, "one", DType::Test) {
+        Ok(key) if key as usize == before && table.len() > before => Ending::Done,
+        Err(TableFault::Memory) if table.len() == before => Ending::Refused,
+        _ => Ending::Wrong,
+    }
+}
+
+#[test]
+fn a_table(rt: HostRuntime) {
+    let mut table = Table::new(rt.alloc());
+    for number in 0..20 {
+        assert!(rt; is_done(|| added(rt.alloc(), &mut table, number)));
+    }
+}
 
 // Whether the record of a text is written as that text.
 fn is_record_written(alloc: Global, record: &Record, text: &[u8]) -> Option<bool> {
@@ -17,61 +57,59 @@ fn is_record_written(alloc: Global, record: &Record, text: &[u8]) -> Option<bool
     is_written(write_record(alloc, record, &mut target), &target, text)
 }
 
-// The tail of the failure.
+// The tail of the third entry.
 fn tail(alloc: Global, record: &Record) -> Option<Text> {
     write_tail(alloc, &record.entry(2)?).ok()
 }
 
-// Whether the tail of the failure is written.
-fn is_tail_written(alloc: Global, record: &Record) -> Option<bool> {
-    Some(tail(alloc, record)?.as_str() == "finish|fail|boom")
-}
-
-// Whether the texts of a record are written, also where one request for memory is refused.
-fn texts_hold(alloc: Global, record: &Record) -> bool {
-    let written = again_if_refused(|| is_record_written(alloc, record, two_tests()));
-    let tail = again_if_refused(|| is_tail_written(alloc, record));
-    written == Some(true) && tail == Some(true)
+// Whether the record of a text is written, and the tail of its third entry, also where one request
+// for memory is refused.
+fn is_written_again(alloc: Global, text: &[u8], want: &str) -> Option<bool> {
+    let record = record_again(alloc, text)?;
+    let is_written = again_if_refused(|| is_record_written(alloc, &record, text))?;
+    let tail = again_if_refused(|| tail(alloc, &record))?;
+    Some(is_written && tail.as_str() == want)
 }
 
 #[test]
 fn texts(rt: HostRuntime) {
-    let hold = match read_again(rt.alloc()) {
-        Some(record) => texts_hold(rt.alloc(), &record),
-        None => false,
-    };
-    assert!(rt; hold);
+    let alloc = rt.alloc();
+    assert_eq!(rt;
+        is_written_again(alloc, two_tests(), "finish|fail|boom"),
+        Some(true)
+    );
+    assert_eq!(rt;
+        is_written_again(alloc, two_locked_tests(), "finish|ok"),
+        Some(true)
+    );
 }
 
-// Whether the record of locked tests is written, also where one request for memory is refused.
-fn locks_hold(alloc: Global, record: &Record) -> bool {
-    again_if_refused(|| is_record_written(alloc, record, two_locked_tests())) == Some(true)
+// The stamp of an entry that came back for want of memory.
+fn refused_stamp(appended: Result<(), AppendFault>) -> Option<u64> {
+    match appended {
+        Err(AppendFault::Memory(entry)) => Some(entry.event.stamp),
+        _ => None,
+    }
 }
 
-#[test]
-fn locks(rt: HostRuntime) {
-    let hold = match record_again(rt.alloc(), two_locked_tests()) {
-        Some(record) => locks_hold(rt.alloc(), &record),
-        None => false,
-    };
-    assert!(rt; hold);
-}
-
-// Whether a start is appended; none for want of memory, and then the record is as it was.
-fn is_appended(record: &mut Record, stamp: u64) -> Option<bool> {
+// Appends a start. Where memory is refused, the start comes back and the record is as it was.
+fn appended(record: &mut Record, stamp: u64) -> Ending {
     let before = record.len();
     let event = start(0, stamp);
-    match append(record, Entry { worker: 1, event }) {
-        Answer::Appended => Some(record.len() == before + 1),
-        Answer::Memory(back) if record.len() == before && back == stamp => None,
-        _ => Some(false),
+    let refused = refused_stamp(record.append(Entry { worker: 1, event }));
+    if record.len() == before + 1 {
+        Ending::Done
+    } else if record.len() == before && refused == Some(stamp) {
+        Ending::Refused
+    } else {
+        Ending::Wrong
     }
 }
 
 // Whether twenty starts are appended, also where one request for memory is refused.
 fn are_appended(record: &mut Record) -> bool {
     for stamp in 0..20 {
-        if again_if_refused(|| is_appended(record, stamp)) != Some(true) {
+        if !is_done(|| appended(record, stamp)) {
             return false;
         }
     }

@@ -69,22 +69,6 @@ fn reads_no_more(alloc: Global, fails_at: usize, kind: ErrorKind) -> bool {
     matches!(loaded, Err(LoadFault::Device)) && is_broken && reader.was_left_alone()
 }
 
-#[test]
-fn a_reader_that_failed(rt: HostRuntime) {
-    for kind in [
-        ErrorKind::Interrupted,
-        ErrorKind::WouldBlock,
-        ErrorKind::Other,
-    ] {
-        for fails_at in 0..4 {
-            assert!(rt;
-                reads_no_more(rt.alloc(), fails_at, kind),
-                "at call {fails_at}"
-            );
-        }
-    }
-}
-
 // Whether a target answers an error of its writer at that call and from then on, and doesn't ask
 // the writer again.
 fn writes_no_more(fails_at: usize, kind: ErrorKind) -> bool {
@@ -96,14 +80,18 @@ fn writes_no_more(fails_at: usize, kind: ErrorKind) -> bool {
 }
 
 #[test]
-fn a_writer_that_failed(rt: HostRuntime) {
+fn a_device_that_failed(rt: HostRuntime) {
     for kind in [
         ErrorKind::Interrupted,
         ErrorKind::WouldBlock,
         ErrorKind::Other,
     ] {
         for fails_at in 0..4 {
-            assert!(rt; writes_no_more(fails_at, kind), "at call {fails_at}");
+            assert!(rt;
+                reads_no_more(rt.alloc(), fails_at, kind),
+                "reading {fails_at}"
+            );
+            assert!(rt; writes_no_more(fails_at, kind), "writing {fails_at}");
         }
     }
 }
