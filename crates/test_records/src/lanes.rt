@@ -23,8 +23,14 @@ fn fewer_bytes(rt: HostRuntime) {
     assert_eq!(rt; mask[0], 0x7FFF_FFFF_FFFF_FFFF);
     not_into(&mut mask, 63);
     assert_eq!(rt; mask[0], 0);
-    mask_byte(&[], 3, &mut []);
-    not_into(&mut [], 0);
+}
+
+#[test]
+fn no_byte(rt: HostRuntime) {
+    let mut mask = [0u64; 0];
+    mask_byte(&[], 3, &mut mask);
+    not_into(&mut mask, 0);
+    assert_eq!(rt; count_byte(&[], 3), 0);
 }
 
 #[test]

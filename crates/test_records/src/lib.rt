@@ -4,8 +4,6 @@
 #[cfg(test)]
 mod devices;
 #[cfg(test)]
-mod faults;
-#[cfg(test)]
 mod ids;
 #[cfg(test)]
 mod lanes;
@@ -16,9 +14,7 @@ mod pairs;
 #[cfg(test)]
 mod refusals;
 #[cfg(test)]
-mod shown_records;
-#[cfg(test)]
-mod shown_values;
+mod shown;
 #[cfg(test)]
 mod std_devices;
 #[cfg(test)]

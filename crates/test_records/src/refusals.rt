@@ -1,12 +1,13 @@
 //! Calls with ample memory and with any one request for memory refused. Calls of which one answers
 //! `Memory` are made once more, and then all have to succeed.
+use crate::tables::add_root;
 use std::alloc::Global;
 use test_support::{
     Ending, again_if_refused, is_done, is_written, read_again, record_again, start,
     two_locked_tests, two_tests,
 };
 use tk_events::Entry;
-use tk_ids::{DType, Segment, Table, TableFault, Text, UniqueId};
+use tk_ids::{Table, TableFault, UniqueId};
 use tk_record::{AppendFault, Record};
 use tk_record_text::{write_record, write_tail};
 use tk_streams::ByteTarget;
@@ -25,20 +26,12 @@ fn reading_an_id_with_escapes(rt: HostRuntime) {
     assert_eq!(rt; answer, Some(true));
 }
 
-// The segment of this number; none for want of memory.
-fn numbered(alloc: Global, number: u32) -> Option<Segment> {
-    Segment::new(alloc, "t", number.to_string(alloc).ok()?.as_str()).ok()
-}
-
 // Adds a root. Where memory is refused, the table is as long as before.
 fn added(alloc: Global, table: &mut Table, number: u32) -> Ending {
-    let Some(segment) = numbered(alloc, number) else {
-        return Ending::Refused;
-    };
     let before = table.len();
-    match table.add(alloc, None, &segment, "one", DType::Test) {
-        Ok(key) if key as usize == before && table.len() > before => Ending::Done,
-        Err(TableFault::Memory) if table.len() == before => Ending::Refused,
+    match add_root(alloc, table, number) {
+        Some(Ok(key)) if key as usize == before && table.len() > before => Ending::Done,
+        None | Some(Err(TableFault::Memory)) if table.len() == before => Ending::Refused,
         _ => Ending::Wrong,
     }
 }
@@ -57,35 +50,35 @@ fn is_record_written(alloc: Global, record: &Record, text: &[u8]) -> Option<bool
     is_written(write_record(alloc, record, &mut target), &target, text)
 }
 
-// The tail of the third entry.
-fn tail(alloc: Global, record: &Record) -> Option<Text> {
-    write_tail(alloc, &record.entry(2)?).ok()
+// Whether the third entry has this tail.
+fn has_tail(alloc: Global, record: &Record, want: &str) -> Option<bool> {
+    let tail = write_tail(alloc, &record.entry(2)?).ok()?;
+    Some(tail.as_str() == want)
 }
 
-// Whether the record of a text is written, and the tail of its third entry, also where one request
+// Whether a record is written as this text, and the tail of its third entry, also where one request
 // for memory is refused.
-fn is_written_again(alloc: Global, text: &[u8], want: &str) -> Option<bool> {
-    let record = record_again(alloc, text)?;
-    let is_written = again_if_refused(|| is_record_written(alloc, &record, text))?;
-    let tail = again_if_refused(|| tail(alloc, &record))?;
-    Some(is_written && tail.as_str() == want)
+fn texts_hold(alloc: Global, record: &Record, text: &[u8], tail: &str) -> bool {
+    let is_written = again_if_refused(|| is_record_written(alloc, record, text));
+    let has_tail = again_if_refused(|| has_tail(alloc, record, tail));
+    is_written == Some(true) && has_tail == Some(true)
+}
+
+fn is_written_again(alloc: Global, text: &[u8], tail: &str) -> bool {
+    match record_again(alloc, text) {
+        Some(record) => texts_hold(alloc, &record, text, tail),
+        None => false,
+    }
 }
 
 #[test]
 fn texts(rt: HostRuntime) {
-    let alloc = rt.alloc();
-    assert_eq!(rt;
-        is_written_again(alloc, two_tests(), "finish|fail|boom"),
-        Some(true)
-    );
-    assert_eq!(rt;
-        is_written_again(alloc, two_locked_tests(), "finish|ok"),
-        Some(true)
-    );
+    assert!(rt; is_written_again(rt.alloc(), two_tests(), "finish|fail|boom"));
+    assert!(rt; is_written_again(rt.alloc(), two_locked_tests(), "finish|ok"));
 }
 
 // The stamp of an entry that came back for want of memory.
-fn refused_stamp(appended: Result<(), AppendFault>) -> Option<u64> {
+fn refused_stamp(appended: &Result<(), AppendFault>) -> Option<u64> {
     match appended {
         Err(AppendFault::Memory(entry)) => Some(entry.event.stamp),
         _ => None,
@@ -96,7 +89,9 @@ fn refused_stamp(appended: Result<(), AppendFault>) -> Option<u64> {
 fn appended(record: &mut Record, stamp: u64) -> Ending {
     let before = record.len();
     let event = start(0, stamp);
-    let refused = refused_stamp(record.append(Entry { worker: 1, event }));
+    let answer = record.append(Entry { worker: 1, event });
+    let refused = refused_stamp(&answer);
+    drop(answer);
     if record.len() == before + 1 {
         Ending::Done
     } else if record.len() == before && refused == Some(stamp) {

@@ -5,7 +5,7 @@ use std::io::{self, ErrorKind, Read, Write};
 use tk_streams::{LoadFault, Source, StdSource, StdTarget, Target, load, write_all};
 
 // Passes one byte a call, fails at one call, and counts the calls.
-#[derive(Drop)]
+#[derive(Clone, Copy)]
 struct FailsOnce {
     calls: usize,
     fails_at: usize,

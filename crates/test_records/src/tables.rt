@@ -4,10 +4,10 @@ use tk_ids::{DType, Descriptor, IdFault, Locks, Segment, Table, TableFault, Text
 
 type Answer = Result<u32, TableFault>;
 
-// Adds a test with this value in its segment.
-fn add(alloc: Global, table: &mut Table, parent: Option<u32>, value: &str) -> Answer {
-    let segment = Segment::new(alloc, "t", value).map_err(TableFault::Id)?;
-    table.add(alloc, parent, &segment, "one", DType::Test)
+// Adds a test with this value in its segment; none where the segment finds no memory.
+fn add(alloc: Global, table: &mut Table, parent: Option<u32>, value: &str) -> Option<Answer> {
+    let segment = Segment::new(alloc, "t", value).ok()?;
+    Some(table.add(alloc, parent, &segment, "one", DType::Test))
 }
 
 #[test]
@@ -19,7 +19,7 @@ fn additions(rt: HostRuntime) {
         (None, Err(TableFault::Twice)),
         (Some(0), Ok(1)),
     ] {
-        assert_eq!(rt; add(rt.alloc(), &mut table, parent, "a"), answer);
+        assert_eq!(rt; add(rt.alloc(), &mut table, parent, "a"), Some(answer));
     }
 }
 
@@ -33,9 +33,10 @@ fn container(alloc: Global, text: &str) -> Result<Descriptor, IdFault> {
     })
 }
 
-// Inserts a container with the id of this text.
-fn insert(alloc: Global, table: &mut Table, text: &str) -> Answer {
-    table.insert(container(alloc, text).map_err(TableFault::Id)?)
+// Inserts a container with the id of this text; none where the container finds no memory.
+fn insert(alloc: Global, table: &mut Table, text: &str) -> Option<Answer> {
+    let container = container(alloc, text).ok()?;
+    Some(table.insert(container))
 }
 
 #[test]
@@ -47,13 +48,13 @@ fn insertions(rt: HostRuntime) {
         ("[t:a]/[t:b]", Ok(1)),
         ("[t:a]", Err(TableFault::Twice)),
     ] {
-        assert_eq!(rt; insert(rt.alloc(), &mut table, text), answer);
+        assert_eq!(rt; insert(rt.alloc(), &mut table, text), Some(answer));
     }
 }
 
-// Adds the root whose value is this number.
-fn add_root(alloc: Global, table: &mut Table, number: u32) -> Answer {
-    let value = number.to_string(alloc)?;
+/// Adds the root whose value is this number; none where the segment finds no memory.
+pub(crate) fn add_root(alloc: Global, table: &mut Table, number: u32) -> Option<Answer> {
+    let value = number.to_string(alloc).ok()?;
     add(alloc, table, None, value.as_str())
 }
 
@@ -61,10 +62,8 @@ fn add_root(alloc: Global, table: &mut Table, number: u32) -> Answer {
 fn a_full_table(rt: HostRuntime) {
     let mut table = Table::new(rt.alloc());
     for number in 0..65536 {
-        assert_eq!(rt; add_root(rt.alloc(), &mut table, number), Ok(number));
+        assert_eq!(rt; add_root(rt.alloc(), &mut table, number), Some(Ok(number)));
     }
-    assert_eq!(rt;
-        add_root(rt.alloc(), &mut table, 65536),
-        Err(TableFault::Full)
-    );
+    let answer = add_root(rt.alloc(), &mut table, 65536);
+    assert_eq!(rt; answer, Some(Err(TableFault::Full)));
 }

@@ -1,0 +1,79 @@
+//! What is shown of faults and of records, and what a failed assertion prints.
+//!
+//! The texts of faults and of records are fixed by clauses, which don't say that a value is shown.
+use crate::pairs::one_pair;
+use std::alloc::{AllocError, Global};
+use test_support::{are_shown, is_debugged_as, is_shown, record_of, two_tests};
+use tk_events::{Kind, Status};
+use tk_ids::{IdFault, Segment, TableFault, UniqueId};
+use tk_record::{Events, Expected, Record};
+use tk_record_text::{LineFault, NodesFault, WriteFault};
+use tk_streams::Broken;
+
+#[test]
+fn faults_of_ids(rt: HostRuntime) {
+    let faults = [
+        IdFault::Empty,
+        IdFault::BadSegment(1),
+        IdFault::BadEscape(2),
+        IdFault::TooLong,
+        IdFault::Memory,
+    ];
+    assert!(rt; are_shown(rt.alloc(), &faults));
+    let faults = [
+        TableFault::NoParent,
+        TableFault::Twice,
+        TableFault::Full,
+        TableFault::Id(IdFault::Empty),
+        TableFault::Memory,
+    ];
+    assert!(rt; are_shown(rt.alloc(), &faults));
+}
+
+#[test]
+fn faults_of_texts(rt: HostRuntime) {
+    assert!(rt; are_shown(rt.alloc(), &[LineFault::Bad, LineFault::Memory]));
+    assert!(rt; are_shown(rt.alloc(), &[NodesFault::BadLine(2), NodesFault::Memory]));
+    assert!(rt; are_shown(rt.alloc(), &[WriteFault::Device, WriteFault::Memory]));
+    assert!(rt; is_shown(rt.alloc(), &Broken));
+}
+
+// Whether the events of two tests, their statistics, and the one number that differs from what is
+// expected are shown.
+fn is_record_shown(alloc: Global, record: &Record) -> Result<bool, AllocError> {
+    let events = Events::all(alloc, record)?;
+    let expected = Expected {
+        skipped: Some(0),
+        ..Expected::none()
+    };
+    let mismatches = events.check(alloc, &expected)?;
+    Ok(
+        is_shown(alloc, &events)
+            && is_shown(alloc, &events.statistics())
+            && mismatches.len() == 1
+            && is_shown(alloc, &mismatches[0]),
+    )
+}
+
+#[test]
+fn records(rt: HostRuntime) {
+    match record_of(rt.alloc(), two_tests()) {
+        Some(record) => assert_eq!(rt; is_record_shown(rt.alloc(), &record), Ok(true)),
+        None => assert!(rt; false),
+    }
+}
+
+#[test]
+fn debugged_ids(rt: HostRuntime) {
+    let segment = Segment::new(rt.alloc(), "t", "a/b");
+    assert!(rt; is_debugged_as(rt.alloc(), &segment, "Ok(Segment(\"t\", \"a/b\"))"));
+    let id = UniqueId::read(rt.alloc(), "[t:a%2Fb]");
+    assert!(rt; is_debugged_as(rt.alloc(), &id, "Ok(\"[t:a%2Fb]\")"));
+}
+
+#[test]
+fn debugged_events(rt: HostRuntime) {
+    assert!(rt; is_debugged_as(rt.alloc(), &one_pair(rt.alloc()), "Ok([(\"k\", \"v\")])"));
+    assert!(rt; is_debugged_as(rt.alloc(), &Kind::Reporting, "Reporting"));
+    assert!(rt; is_debugged_as(rt.alloc(), &Status::of_code(3), "Some(Failed)"));
+}
