@@ -3,7 +3,6 @@ ghost use Rattle.std.specs.Prelude.{◌≡◌, All};
 
 use std::alloc::Global;
 use std::sync::Wait;
-use std::test::Fail;
 use tk_locks::{Book, BookFault, BookSeat, Busy, Holdings, Need};
 
 // A seat beside its book.
@@ -95,18 +94,13 @@ fn seats_share<R: Wait>(rt: &R, book: &Book, seats: &mut Vec<BookSeat>) -> Optio
     Some(share(rt, &mut first, &mut second, &mut third, &mut writer))
 }
 
-// Whether three seats of a book of four share a resource that the fourth writes last.
-fn four_share<R: Wait>(rt: &R, alloc: Global) -> Option<bool> {
+/// Whether three seats of a book of four share a resource that the fourth writes last.
+pub fn four_share<R: Wait>(rt: &R, alloc: Global) -> Option<bool> {
     let (book, mut seats) = Book::open(alloc, 4).ok()?;
     let hold = seats_share(rt, &book, &mut seats);
     drop(seats);
     drop(book);
     hold
-}
-
-#[test]
-fn shared_readers(rt: HostRuntime) {
-    assert!(rt; four_share(&rt, rt.alloc()) == Some(true));
 }
 
 // Whether a writer keeps a reader of its resource out, and no other one.
@@ -136,33 +130,26 @@ fn writer_excludes(rt: HostRuntime) {
 }
 
 #[test]
-fn one_to_fifteen_seats(rt: HostRuntime) -> Result<(), Fail> {
+fn one_to_fifteen_seats(rt: HostRuntime) {
     assert!(rt; matches!(Book::open(rt.alloc(), 0), Err(BookFault::Seats)));
     assert!(rt; matches!(Book::open(rt.alloc(), 16), Err(BookFault::Seats)));
-    let (book, seats) = Book::open(rt.alloc(), 15)?;
-    assert_eq!(rt; book.close(seats), 0);
-    Ok(())
 }
 
 // A need that reads resource 0 and writes resource 1.
 fn reader_and_writer() -> Option<Need> {
-    Need::none().reading(0)?.reading(1)?.writing(1)?.reading(1)
+    Need::none().reading(0)?.reading(1)?.writing(1)
 }
 
 #[test]
 fn words_of_needs(rt: HostRuntime) {
     assert_eq!(rt; Need::of(1, 2).word(), 0xF1);
-    assert_eq!(rt; Need::of(3, 2).word(), 0xF1);
     assert!(rt; matches!(reader_and_writer(), Some(need) if need.word() == 0xF1));
-    assert!(rt; Need::none().writing(16).is_none());
 }
 
-#[test]
-fn holdings(rt: HostRuntime) -> Result<(), Fail> {
-    let mut holdings = Holdings::new(rt.alloc(), 2)?;
-    assert!(rt; holdings.grant(0, Need::of(0, 4)));
-    assert!(rt; !holdings.grant(1, Need::of(4, 0)));
+/// Whether a seat is granted what conflicts with another seat's need, once that one is released.
+pub fn are_granted(alloc: Global) -> Option<bool> {
+    let mut holdings = Holdings::new(alloc, 2).ok()?;
+    let is_held = holdings.grant(0, Need::of(0, 4)) && !holdings.grant(1, Need::of(4, 0));
     holdings.release(0);
-    assert!(rt; holdings.grant(1, Need::of(4, 0)));
-    Ok(())
+    Some(is_held && holdings.grant(1, Need::of(4, 0)))
 }

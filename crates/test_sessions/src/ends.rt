@@ -5,9 +5,9 @@ use std::alloc::Global;
 use std::sync::Wait;
 use test_support::one_node;
 use tk_events::{Event, Kind};
-use tk_ids::DType;
+use tk_ids::{DType, Segment};
 use tk_queue_core::Item;
-use tk_queue_session::{Ended, Receiver, SendFault, Sender, open};
+use tk_queue_session::{CloseReason, Ended, Receiver, RegisterFault, SendFault, Sender, open};
 
 /// The sender and the receiver of a session of one worker, if it is opened.
 pub fn one_sender(alloc: Global, capacity: usize) -> Option<(Sender, Receiver)>
@@ -27,12 +27,17 @@ pub fn two_senders(alloc: Global, capacity: usize) -> Option<(Sender, Sender, Re
     Some((senders.pop()?, second, receiver))
 }
 
-/// How many events worker 1 emitted, if the session is closed.
-pub fn emitted(receiver: Receiver, ended: Vec<Ended>) -> Option<u64>
+/// How many events worker 1 emitted in a session that is closed, or why it isn't.
+pub fn closed(receiver: Receiver, ended: Vec<Ended>) -> Result<u64, CloseReason>
     requires { All (λ token. token.session ≡ receiver.session) ended.items }
 {
-    let closed = receiver.close(ended).ok()?;
-    Some(closed.emitted(1))
+    let answer = receiver.close(ended);
+    let emitted = match &answer {
+        Ok(closed) => Ok(closed.emitted(1)),
+        Err(fault) => Err(fault.why),
+    };
+    drop(answer);
+    emitted
 }
 
 /// What a sender answers.
@@ -75,16 +80,31 @@ pub fn send<R: Wait>(rt: &R, sender: &mut Sender, event: Event) -> Answer
     answer
 }
 
+/// The key of the descriptor with this segment that is registered below the parent, at stamp 5.
+pub fn register<R: Wait>(
+    rt: &R,
+    sender: &mut Sender,
+    segment: &Segment,
+    parent: u32,
+) -> Result<u32, RegisterFault> {
+    sender.register(rt, parent, segment, "one", DType::Test, 5)
+}
+
 /// What an item is.
-pub fn plain(item: Option<Item>) -> TakenItem {
+pub fn plain(item: &Item) -> TakenItem {
     match item {
-        Some(Item::Entry(entry)) => TakenItem::Entry(
-            entry.worker,
-            entry.event.kind,
-            entry.event.key,
-            entry.event.stamp,
-        ),
-        Some(Item::End(worker)) => TakenItem::End(worker),
+        Item::Entry(entry) => {
+            let event = &entry.event;
+            TakenItem::Entry(entry.worker, event.kind, event.key, event.stamp)
+        }
+        Item::End(worker) => TakenItem::End(*worker),
+    }
+}
+
+/// What was taken.
+pub fn taken(item: &Option<Item>) -> TakenItem {
+    match item {
+        Some(item) => plain(item),
         None => TakenItem::Nothing,
     }
 }
@@ -93,5 +113,8 @@ pub fn plain(item: Option<Item>) -> TakenItem {
 pub fn take<R: Wait>(rt: &R, receiver: &mut Receiver) -> TakenItem
     ensures session { receiver.new.session ≡ receiver.old.session }
 {
-    plain(receiver.take(rt))
+    let item = receiver.take(rt);
+    let taken = taken(&item);
+    drop(item);
+    taken
 }

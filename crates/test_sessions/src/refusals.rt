@@ -1,20 +1,19 @@
 //! What is answered where memory is refused. A call that answers so is made once more, and then it
 //! has to succeed: each test passes with ample memory, and with any one request for memory refused.
-use crate::ends::{TakenItem, plain, take, two_senders};
+use crate::books::{are_granted, four_share};
+use crate::claims::drawn_by_two;
+use crate::ends::{TakenItem, register, take, taken, two_senders};
 use std::alloc::Global;
 use std::sync::Wait;
 use std::test::*;
 use test_support::{
-    Ending, again_if_refused, done_if, is_done, one_node, refused_if, small_replay,
-    small_replay_taken, start,
+    Ending, again_if_refused, done_if, is_done, refused_if, small_replay, small_replay_taken, start,
 };
-use tk_engine_runs::{Claim, ClaimFault};
-use tk_events::Kind;
-use tk_ids::{DType, Segment};
-use tk_locks::{Book, BookFault, Holdings, Need};
+use tk_events::{Event, Kind};
+use tk_ids::Segment;
 use tk_queue_core::{Core, CoreFault};
 use tk_queue_replay::{ReplayFault, replay_text};
-use tk_queue_session::{OpenFault, Receiver, RegisterFault, Sender, open};
+use tk_queue_session::{Receiver, RegisterFault, Sender};
 use tk_streams::{ByteSource, ByteTarget, Target};
 
 // A refused growth of the target breaks it, and what it took is a prefix of the record.
@@ -43,54 +42,55 @@ fn a_replay(rt: HostRuntime) {
     assert!(rt; is_done(|| replayed(rt.alloc())));
 }
 
-// Where memory is refused, the event comes back and no more items wait.
-fn emitted(core: &mut Core, stamp: u64) -> Ending {
-    let before = core.waiting();
-    let answer = core.emit(1, start(0, stamp));
-    let is_kept = core.waiting() == before;
+// Where memory is refused, the event comes back.
+fn ending_of_emission(answer: &Result<(), (CoreFault, Event)>, stamp: u64) -> Ending {
     match answer {
         Ok(()) => Ending::Done,
-        Err((CoreFault::Memory, event)) if is_kept && event.stamp == stamp => Ending::Refused,
-        Err(_) => Ending::Wrong,
+        Err((fault, event)) => refused_if(*fault == CoreFault::Memory && event.stamp == stamp),
     }
 }
 
-// Whether 20 starts are emitted, each at once or where it is emitted once more.
+fn emitted(core: &mut Core, stamp: u64) -> Ending {
+    let answer = core.emit(1, start(0, stamp));
+    let ending = ending_of_emission(&answer, stamp);
+    drop(answer);
+    ending
+}
+
+// Whether a thousand starts are emitted, each at once or where it is emitted once more.
 fn are_emitted(core: &mut Core) -> bool {
-    for stamp in 0..20 {
+    for stamp in 0..1_000 {
         if !is_done(|| emitted(core, stamp)) {
             return false;
         }
     }
-    core.waiting() == 20
+    core.waiting() == 1_000
 }
 
 // Whether these are taken in their order.
 fn are_taken(core: &mut Core) -> bool {
-    for stamp in 0..20 {
-        if plain(core.take()) != TakenItem::Entry(1, Kind::Started, 0, stamp) {
+    for stamp in 0..1_000 {
+        let item = core.take();
+        let is_right = taken(&item) == TakenItem::Entry(1, Kind::Started, 0, stamp);
+        drop(item);
+        if !is_right {
             return false;
         }
     }
-    true
+    core.waiting() == 0
 }
 
 #[test]
 fn a_core(rt: HostRuntime) {
     let mut core = Core::new(rt.alloc(), 1);
-    assert!(rt; are_emitted(&mut core));
-    assert!(rt; are_taken(&mut core));
+    assert!(rt; are_emitted(&mut core) && are_taken(&mut core));
 }
 
 // Where memory is refused, nothing was emitted.
 fn registered<R: Wait>(rt: &R, sender: &mut Sender, segment: &Segment) -> Ending {
-    let before = sender.emitted();
-    let answer = sender.register(rt, 0, segment, "one", DType::Test, 5);
-    let emitted = sender.emitted();
-    match answer {
-        Ok(131_072) if before == 0 && emitted == 1 => Ending::Done,
-        Err(RegisterFault::Memory) if before == 0 && emitted == 0 => Ending::Refused,
-        _ => Ending::Wrong,
+    match register(rt, sender, segment, 0) {
+        Ok(key) => done_if(key == 131_072 && sender.emitted() == 1),
+        Err(fault) => refused_if(fault == RegisterFault::Memory && sender.emitted() == 0),
     }
 }
 
@@ -128,62 +128,17 @@ fn a_registration(rt: HostRuntime) {
     assert!(rt; registers(&rt, rt.alloc()) == Some(true));
 }
 
-// Opens a claim from which nothing is drawn.
-fn claim_opened(alloc: Global) -> Ending {
-    match Claim::open(alloc, 3, 2) {
-        Ok((claim, seats)) => done_if(claim.close(seats) == 0),
-        Err(ClaimFault::Memory) => Ending::Refused,
-        Err(ClaimFault::Seats) => Ending::Wrong,
-    }
-}
-
-// Opens a book in which nothing is held.
-fn book_opened(alloc: Global) -> Ending {
-    match Book::open(alloc, 2) {
-        Ok((book, seats)) => done_if(book.close(seats) == 0),
-        Err(BookFault::Memory) => Ending::Refused,
-        Err(BookFault::Seats) => Ending::Wrong,
-    }
-}
-
-// Makes holdings of two seats, of which each may hold what the other one doesn't.
-fn holdings_made(alloc: Global) -> Ending {
-    match Holdings::new(alloc, 2) {
-        Ok(mut holdings) => {
-            done_if(holdings.grant(0, Need::of(0, 4)) && holdings.grant(1, Need::of(0, 2)))
-        }
-        Err(_) => Ending::Refused,
-    }
-}
-
-// Opens a session of two workers.
-fn session_opened(alloc: Global) -> Ending {
-    let Some(table) = one_node(alloc, DType::Test) else {
-        return Ending::Refused;
-    };
-    match open(alloc, table, 2, 4) {
-        Ok((senders, _)) => done_if(senders.len() == 2),
-        Err(OpenFault::Memory) => Ending::Refused,
-        Err(_) => Ending::Wrong,
-    }
-}
-
 #[test]
 fn a_claim(rt: HostRuntime) {
-    assert!(rt; is_done(|| claim_opened(rt.alloc())));
+    assert!(rt; again_if_refused(|| drawn_by_two(rt.alloc())) == Some(3));
 }
 
 #[test]
 fn a_book(rt: HostRuntime) {
-    assert!(rt; is_done(|| book_opened(rt.alloc())));
+    assert!(rt; again_if_refused(|| four_share(&rt, rt.alloc())) == Some(true));
 }
 
 #[test]
 fn some_holdings(rt: HostRuntime) {
-    assert!(rt; is_done(|| holdings_made(rt.alloc())));
-}
-
-#[test]
-fn a_session(rt: HostRuntime) {
-    assert!(rt; is_done(|| session_opened(rt.alloc())));
+    assert!(rt; again_if_refused(|| are_granted(rt.alloc())) == Some(true));
 }

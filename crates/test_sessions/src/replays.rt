@@ -1,25 +1,14 @@
 //! The queue's core by hand, and replays of scripts by turns.
-use crate::ends::{TakenItem, plain};
+use crate::ends::{TakenItem, plain, taken};
 use std::alloc::Global;
 use test_support::{
     OneByteSource, OneByteTarget, one_node, small_replay, small_replay_taken, start,
 };
 use tk_events::{Event, Kind};
 use tk_ids::DType;
-use tk_queue_core::{Core, CoreFault, Item};
+use tk_queue_core::{Core, CoreFault};
 use tk_queue_replay::{ReplayFault, Replayed, Turn, replay, replay_text};
 use tk_streams::{ByteTarget, Source, Target};
-
-fn is_entry(item: &Item, worker: u8, stamp: u64) -> bool {
-    match item {
-        Item::Entry(entry) => entry.worker == worker && entry.event.stamp == stamp,
-        Item::End(_) => false,
-    }
-}
-
-fn is_end(item: &Item, worker: u8) -> bool {
-    matches!(item, Item::End(ended) if *ended == worker)
-}
 
 fn emits(core: &mut Core, worker: u8, stamp: u64) -> bool {
     core.emit(worker, start(0, stamp)).is_ok()
@@ -30,15 +19,21 @@ fn ends(core: &mut Core, worker: u8) -> bool {
 }
 
 fn takes(core: &mut Core, want: TakenItem) -> bool {
-    plain(core.take()) == want
+    let item = core.take();
+    let is_right = taken(&item) == want;
+    drop(item);
+    is_right
 }
 
 // Whether the start comes back, for that reason.
 fn refuses(core: &mut Core, worker: u8, stamp: u64, why: CoreFault) -> bool {
-    match core.emit(worker, start(0, stamp)) {
-        Err((fault, event)) => fault == why && event.stamp == stamp,
+    let answer = core.emit(worker, start(0, stamp));
+    let is_right = match &answer {
         Ok(()) => false,
-    }
+        Err((fault, event)) => *fault == why && event.stamp == stamp,
+    };
+    drop(answer);
+    is_right
 }
 
 #[test]
@@ -52,33 +47,6 @@ fn core_turns(rt: HostRuntime) {
         && takes(&mut core, TakenItem::End(1))
         && takes(&mut core, TakenItem::Nothing);
     assert!(rt; is_ended && is_taken);
-}
-
-// Whether a thousand starts are emitted.
-fn emits_a_thousand(core: &mut Core) -> bool {
-    for stamp in 0..1_000 {
-        if !emits(core, 1, stamp) {
-            return false;
-        }
-    }
-    core.waiting() == 1_000
-}
-
-// Whether they are taken in their order, and then nothing.
-fn takes_a_thousand(core: &mut Core) -> bool {
-    for stamp in 0..1_000 {
-        if !takes(core, TakenItem::Entry(1, Kind::Started, 0, stamp)) {
-            return false;
-        }
-    }
-    takes(core, TakenItem::Nothing)
-}
-
-#[test]
-fn a_thousand_waiting(rt: HostRuntime) {
-    let mut core = Core::new(rt.alloc(), 1);
-    let hold = emits_a_thousand(&mut core) && takes_a_thousand(&mut core);
-    assert!(rt; hold);
 }
 
 // A script of starts with these stamps.
@@ -97,47 +65,41 @@ fn scripts(alloc: Global) -> Option<Vec<Vec<Event>>> {
     Some(scripts)
 }
 
-// Worker 1 emits twice and ends, and nothing is taken from then on.
-fn left_in_the_queue(alloc: Global, scripts: &[Vec<Event>]) -> Option<Replayed> {
+// Whether nothing was taken, and the starts and the mark of worker 1 wait.
+fn are_left(replayed: &Replayed) -> bool {
+    let waiting = replayed.waiting.as_slice();
+    replayed.taken.len() == 0
+        && replayed.emitted.as_slice() == [2, 0].as_slice()
+        && waiting.len() == 3
+        && plain(&waiting[0]) == TakenItem::Entry(1, Kind::Started, 0, 10)
+        && plain(&waiting[1]) == TakenItem::Entry(1, Kind::Started, 0, 11)
+        && plain(&waiting[2]) == TakenItem::End(1)
+}
+
+// Whether that is so where worker 1 emits twice and ends, and nothing is taken from then on.
+fn is_left(alloc: Global, scripts: &[Vec<Event>]) -> Option<bool> {
     if scripts.len() != 2 {
         return None;
     }
-    let turns = [
-        Turn::Take,
-        Turn::Worker(1),
-        Turn::Worker(1),
-        Turn::Worker(1),
-    ];
-    replay(alloc, one_node(alloc, DType::Test)?, scripts, &turns).ok()
+    let table = one_node(alloc, DType::Test)?;
+    let one = Turn::Worker(1);
+    let replayed = replay(alloc, table, scripts, &[Turn::Take, one, one, one]);
+    let are_left = match &replayed {
+        Ok(replayed) => are_left(replayed),
+        Err(_) => false,
+    };
+    drop(replayed);
+    Some(are_left)
 }
 
-fn are_waiting(waiting: &[Item]) -> bool {
-    match waiting {
-        [first, second, end] => {
-            is_entry(first, 1, 10) && is_entry(second, 1, 11) && is_end(end, 1)
-        }
-        _ => false,
-    }
-}
-
-fn is_left(alloc: Global, scripts: &[Vec<Event>]) -> bool {
-    match left_in_the_queue(alloc, scripts) {
-        Some(replayed) => {
-            replayed.taken.len() == 0
-                && replayed.emitted.as_slice() == [2, 0].as_slice()
-                && are_waiting(replayed.waiting.as_slice())
-        }
-        None => false,
-    }
+fn are_left_waiting(alloc: Global) -> Option<bool> {
+    let scripts = scripts(alloc)?;
+    is_left(alloc, scripts.as_slice())
 }
 
 #[test]
 fn left_waiting(rt: HostRuntime) {
-    let hold = match scripts(rt.alloc()) {
-        Some(scripts) => is_left(rt.alloc(), scripts.as_slice()),
-        None => false,
-    };
-    assert!(rt; hold);
+    assert!(rt; are_left_waiting(rt.alloc()) == Some(true));
 }
 
 // Whether the answer is that a device broke.

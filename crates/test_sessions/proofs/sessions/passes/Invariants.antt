@@ -1,5 +1,5 @@
 use Rattle.std.proofs.Common.{◌≡◌}
-use Rattle.test_sessions.proofs.limits.passes.Given as goal
+use Rattle.test_sessions.proofs.sessions.passes.Given as goal
 
 abbrev pub invariant-loop-stamp : goal.invariant-loop-stamp
 invariant-loop-stamp g l = record {
