@@ -18,7 +18,7 @@ use tk_locks::{BookSeat, Need};
 /// What a unit does next.
 #[derive(Clone, Copy)]
 pub enum UnitStep {
-    /// Emits a start with this stamp.
+    /// Emits a start of the root with this stamp.
     Start(u64),
     /// Emits a start of the descriptor with this key.
     StartOf(u32),
@@ -82,7 +82,7 @@ pub struct Asked {
 
 /// What an engine saw of a run: the sum of a bit for each unit that began and that came to its end,
 /// and how it was asked for the events before and after its units. Each of 60 units has its own bit.
-#[derive(Clone, Copy, PartialEq, Eq)]
+#[derive(Clone, Copy)]
 pub struct Seen {
     pub begun: u64,
     pub ended: u64,

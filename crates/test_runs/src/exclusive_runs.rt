@@ -1,12 +1,10 @@
 //! Whether tests that lock one key keep away from each other, asked of the records of their runs.
 use crate::engines::{UnitStep, Units, engine};
-use std::alloc::{AllocError, Global};
+use std::alloc::Global;
 use std::sync::Wait;
 use std::thread::Threads;
-use test_support::demo_plan;
 use tk_engine_execute::{Results, execute};
 use tk_locks::Need;
-use tk_plan_runs::run_plan;
 use tk_query::{Exclusive, exclusive};
 use tk_query_conditions::read_condition;
 
@@ -16,67 +14,6 @@ fn answer_of(alloc: Global, results: &Results, writers: &str, readers: &str) -> 
     let readers = read_condition(alloc, readers).ok()?;
     let events = results.all_events(alloc).ok()?;
     exclusive(alloc, &events, &writers, &readers).ok()
-}
-
-// What `exclusive` answers of the run of a plan by 15 workers, of the writers and readers of a key.
-fn answer_of_plan<R: Threads + Wait + Sync>(
-    rt: &R,
-    alloc: Global,
-    plan: &[u8],
-    writers: &str,
-    readers: &str,
-) -> Option<Exclusive> {
-    let ran = run_plan(rt, alloc, plan, 15);
-    let answer = match &ran {
-        Ok(run) => answer_of(alloc, &run.results, writers, readers),
-        Err(_) => None,
-    };
-    drop(ran);
-    answer
-}
-
-/// In the demo plan class D locks a key, and runs one test: there is no pair.
-#[test]
-fn locked_tests_of_the_demo_plan(rt: HostRuntime) {
-    let writers = "all(test,id([class:D]))";
-    let answer = answer_of_plan(&rt, rt.alloc(), demo_plan(), writers, "any()");
-    assert!(rt; answer == Some(Exclusive::NoPair));
-}
-
-// A plan of this many concurrent tests on one key, of which every third only reads it.
-fn plan_on_one_key(alloc: Global, tests: u32) -> Result<String, AllocError> {
-    let mut text = String::from_str(
-        alloc,
-        "{\"version\":1,\"root\":{\"type\":\"container\",\"segment\":[\"engine\",\"e\"],\"name\":\"e\",\"children\":[",
-    )?;
-    for test in 0..tests {
-        let comma = if test == 0 { "" } else { "," };
-        let (tag, mode) = if test % 3 == 0 {
-            ("r", "read")
-        } else {
-            ("w", "read_write")
-        };
-        write!(
-            &mut text,
-            "{comma}\n{{\"type\":\"test\",\"segment\":[\"{tag}\",\"{test}\"],\"name\":\"t\",\"mode\":\"concurrent\",\"locks\":[{{\"key\":\"db\",\"mode\":\"{mode}\"}}]}}"
-        )?;
-    }
-    text.push_str("]}}")?;
-    Ok(text)
-}
-
-fn answer_on_one_key<R: Threads + Wait + Sync>(
-    rt: &R,
-    alloc: Global,
-    tests: u32,
-) -> Option<Exclusive> {
-    let plan = plan_on_one_key(alloc, tests).ok()?;
-    answer_of_plan(rt, alloc, plan.as_bytes(), "id([w:)", "id([r:)")
-}
-
-#[test]
-fn many_tests_on_one_key(rt: HostRuntime) {
-    assert!(rt; answer_on_one_key(&rt, rt.alloc(), 20_000) == Some(Exclusive::Yes));
 }
 
 // What `exclusive` answers of two tests that two workers run under this need, each with these steps
@@ -100,12 +37,9 @@ fn answer_of_two<R: Threads + Wait + Sync>(
         UnitStep::FinishOf(2),
     ];
     let units = Units {
-        starts_before: 0,
-        count: 2,
         need,
         need_of_others: need,
-        first: &first,
-        others: &other,
+        ..Units::beside(2, &first, &other)
     };
     let engine = engine(alloc, &units)?;
     let ran = execute(rt, alloc, &engine, 2, 64);

@@ -1,6 +1,5 @@
 //! Runs: threads that share a lock book, senders on threads of their own, engines run by workers, and
-//! plans as the library reads them, what their runs record, and where their reports break. Beside
-//! them, for each reader, texts that nobody wrote on purpose.
+//! plans as the library reads them, what their runs record, and where their reports break.
 #![tactic(auto)]
 
 #[cfg(test)]
@@ -12,13 +11,7 @@ mod exclusive_runs;
 #[cfg(test)]
 mod faults;
 #[cfg(test)]
-mod hostile_samples;
-#[cfg(test)]
-mod hostile_texts;
-#[cfg(test)]
 mod plans;
-#[cfg(test)]
-mod random_numbers;
 #[cfg(test)]
 mod refusals;
 #[cfg(test)]

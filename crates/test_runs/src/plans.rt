@@ -4,7 +4,7 @@ ghost use Rattle.tk_plan.specs.Known.{IsKnown};
 
 use std::alloc::{AllocError, Global};
 use test_support::demo_plan;
-use tk_events::{Event, Outcome};
+use tk_events::Event;
 use tk_ids::Text;
 use tk_plan::{Act, Plan, Step};
 use tk_plan_reading::read_plan;
@@ -84,92 +84,53 @@ fn of_dynamic_test() -> [(u32, u64, Act); 5] {
     ]
 }
 
-#[test]
-fn demo_plan_is_cut(rt: HostRuntime) {
-    let read = read_plan(rt.alloc(), demo_plan());
-    match &read {
-        Ok(plan) => {
-            assert!(rt; plan.spine() == &[0][..]);
-            assert!(rt; plan.units() == &[1, 3, 5, 6][..]);
-            assert!(rt; plan.total_events() == 16);
-            assert!(rt; have_needs(plan, &[0x1, 0x1, 0x1, 0xF1]));
-            assert!(rt; matches!(has_frame(rt.alloc(), plan, 15), Ok(true)));
-            assert!(rt; ends_with(rt.alloc(), plan, &of_dynamic_test()));
-        }
-        Err(_) => assert!(rt; false, "no plan"),
-    }
-    drop(read);
+// Whether the plan has one spine node, four units, and 16 events.
+fn is_demo(plan: &Plan) -> bool {
+    plan.spine() == &[0][..]
+        && plan.units() == &[1, 3, 5, 6][..]
+        && plan.total_events() == 16
+        && have_needs(plan, &[0x1, 0x1, 0x1, 0xF1])
 }
 
-// Whether a plan is one unit that gives `events` events, with nothing on the spine.
-fn is_one_unit(alloc: Global, plan: &Plan, events: u32) -> bool {
-    plan.spine().is_empty()
-        && have_needs(plan, &[1])
-        && plan.total_events() == events
-        && matches!(plan.before(alloc), Ok(before) if before.is_empty())
+fn is_demo_cut(alloc: Global) -> Option<bool> {
+    let plan = read_plan(alloc, demo_plan()).ok()?;
+    let has_frame = has_frame(alloc, &plan, 15).ok()?;
+    Some(is_demo(&plan) && has_frame && ends_with(alloc, &plan, &of_dynamic_test()))
+}
+
+#[test]
+fn demo_plan_is_cut(rt: HostRuntime) {
+    assert!(rt; is_demo_cut(rt.alloc()) == Some(true));
+}
+
+// Whether a text is a plan of one unit that gives `events` events, with nothing on the spine.
+fn is_one_unit(alloc: Global, text: &[u8], events: u32) -> Option<bool> {
+    let plan = read_plan(alloc, text).ok()?;
+    let before = plan.before(alloc).ok()?.len();
+    let is_bare = plan.spine().is_empty() && before == 0;
+    Some(is_bare && have_needs(&plan, &[1]) && plan.total_events() == events)
 }
 
 #[test]
 fn roots_off_the_spine(rt: HostRuntime) {
     for (text, events) in [(same_thread(), 4), (one_test(), 2), (with_files(), 4)] {
-        let read = read_plan(rt.alloc(), text);
-        match &read {
-            Ok(plan) => assert!(rt; is_one_unit(rt.alloc(), plan, events), "{events}"),
-            Err(_) => assert!(rt; false, "no plan"),
-        }
-        drop(read);
+        assert!(rt;
+            is_one_unit(rt.alloc(), text, events) == Some(true),
+            "{events}"
+        );
     }
 }
 
-// The script of a test that publishes two files.
-fn of_files() -> [(u32, u64, Act); 4] {
-    [
-        (0, 0, Act::Start),
-        (0, 1, Act::File(0)),
-        (0, 2, Act::File(1)),
-        (0, 3, Act::Finish),
-    ]
-}
-
-#[test]
-fn files_of_a_node(rt: HostRuntime) {
-    let read = read_plan(rt.alloc(), with_files());
-    match &read {
-        Ok(plan) => assert!(rt; ends_with(rt.alloc(), plan, &of_files())),
-        Err(_) => assert!(rt; false, "no plan"),
-    }
-    drop(read);
-}
-
-// A test with two entries and two files that is aborted, and a test that is skipped.
+// A root with a test that has an entry and a file, and a test that is skipped.
 fn with_contents() -> &'static [u8] {
     b"{\"version\":2,\"root\":{\"type\":\"container\",\"segment\":[\"engine\",\"e\"],\"name\":\"e\",\"children\":[
-{\"type\":\"test\",\"segment\":[\"t\",\"1\"],\"name\":\"one\",\"entries\":[[[\"k\",\"v\"]],[]],\"files\":[\"a\",\"b\"],
- \"result\":{\"status\":\"aborted\",\"message\":\"m\"}},
-{\"type\":\"test\",\"segment\":[\"t\",\"2\"],\"name\":\"two\",\"skip\":\"off\"}],\"result\":{\"status\":\"failed\"}}}"
+{\"type\":\"test\",\"segment\":[\"t\",\"1\"],\"name\":\"one\",\"entries\":[[[\"k\",\"v\"]]],\"files\":[\"a\"]},
+{\"type\":\"test\",\"segment\":[\"t\",\"2\"],\"name\":\"two\",\"skip\":\"off\"}]}}"
 }
 
-fn are_pairs(pairs: &[(Text, Text)], entry: u32) -> bool {
+fn is_pair(pairs: &[(Text, Text)]) -> bool {
     match pairs {
-        [] => entry == 1,
-        [(key, value)] => entry == 0 && key.as_str() == "k" && value.as_str() == "v",
-        _ => false,
-    }
-}
-
-fn is_path(path: &str, file: u32) -> bool {
-    match file {
-        0 => path == "a",
-        1 => path == "b",
-        _ => false,
-    }
-}
-
-// Whether node 1 is aborted with a message, and node 0 fails without one.
-fn is_outcome(outcome: &Outcome, node: u32) -> bool {
-    match (node, outcome) {
-        (0, Outcome::Failed(None)) => true,
-        (1, Outcome::Aborted(Some(message))) => message.as_str() == "m",
+        [(key, value)] => key.as_str() == "k" && value.as_str() == "v",
         _ => false,
     }
 }
@@ -179,12 +140,10 @@ fn has_contents(plan: &Plan, step: Step) -> bool
     requires { IsKnown plan.now.nodes step.node step.act }
 {
     match step.act {
-        Act::Skip => step.node == 2 && plan.reason(step.node) == Some("off"),
-        Act::Report(entry) => are_pairs(plan.pairs(step.node, entry), entry),
-        Act::File(file) => is_path(plan.path(step.node, file), file),
-        Act::Finish => is_outcome(plan.outcome(step.node), step.node),
-        Act::Start => plan.reason(step.node).is_none(),
-        Act::Register { .. } => false,
+        Act::Skip => plan.reason(step.node) == Some("off"),
+        Act::Report(entry) => is_pair(plan.pairs(step.node, entry)),
+        Act::File(file) => plan.path(step.node, file) == "a",
+        _ => true,
     }
 }
 
@@ -200,23 +159,23 @@ fn have_contents(plan: &Plan, steps: &[Step]) -> bool
     true
 }
 
-// Whether the one unit has nine steps, and the plan gives their contents.
+// Whether the one unit has seven steps, and the plan gives their contents.
 fn has_contents_of_unit(alloc: Global, plan: &Plan) -> bool {
     if plan.units().len() != 1 {
         return false;
     }
     match plan.script(alloc, 0) {
-        Ok(steps) => steps.len() == 9 && have_contents(plan, steps.as_slice()),
+        Ok(steps) => steps.len() == 7 && have_contents(plan, steps.as_slice()),
         Err(_) => false,
     }
 }
 
+fn are_contents_given(alloc: Global) -> Option<bool> {
+    let plan = read_plan(alloc, with_contents()).ok()?;
+    Some(has_contents_of_unit(alloc, &plan))
+}
+
 #[test]
 fn contents_of_nodes(rt: HostRuntime) {
-    let read = read_plan(rt.alloc(), with_contents());
-    match &read {
-        Ok(plan) => assert!(rt; has_contents_of_unit(rt.alloc(), plan)),
-        Err(_) => assert!(rt; false, "no plan"),
-    }
-    drop(read);
+    assert!(rt; are_contents_given(rt.alloc()) == Some(true));
 }

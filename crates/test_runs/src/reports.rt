@@ -3,19 +3,9 @@ use std::alloc::{AllocError, Global};
 use std::sync::Wait;
 use std::thread::Threads;
 use test_support::{OneByteTarget, demo_plan, demo_report};
-use tk_engine_execute::{Results, execute};
-use tk_engine_scripted::Scripted;
-use tk_plan_reading::read_plan;
-use tk_plan_runs::{DEFAULT_CAPACITY, ReportFault, plan_report, run_plan, write_report};
+use tk_engine_execute::Results;
+use tk_plan_runs::{ReportFault, plan_report, run_plan, write_report};
 use tk_query_lifecycle::Lifecycle;
-
-// What three workers record of the demo plan.
-fn ran<R: Threads + Wait + Sync>(rt: &R, alloc: Global) -> Option<Results> {
-    match read_plan(alloc, demo_plan()) {
-        Ok(plan) => execute(rt, alloc, &Scripted::new(plan), 3, DEFAULT_CAPACITY).ok(),
-        Err(_) => None,
-    }
-}
 
 // How many events the workers emitted, without those before and after the units.
 fn emitted(results: &Results) -> u64 {
@@ -69,11 +59,12 @@ fn reporting_is_answered<R: Threads + Wait + Sync>(
     is_answered
 }
 
-// Whether a run of the demo plan recorded all events, each of them once.
+// Whether a run of the demo plan recorded all events, each of them once, and kept the lifecycle.
 fn is_whole(alloc: Global, results: &Results) -> bool {
     results.recorded().len() == 16
         && emitted(results) == 14
         && matches!(counts(alloc, results), Ok((16, 7, 9)))
+        && matches!(results.lifecycle(alloc), Ok(Lifecycle::Kept))
 }
 
 // Whether writing the report breaks at each byte, and nowhere else.
@@ -86,17 +77,21 @@ fn writing_breaks_at_each_byte(alloc: Global, results: &Results) -> bool {
     !writing_breaks(alloc, results, demo_report().len())
 }
 
+// Whether that holds of what three workers record of the demo plan.
+fn run_holds<R: Threads + Wait + Sync>(rt: &R, alloc: Global) -> bool {
+    let ran = run_plan(rt, alloc, demo_plan(), 3);
+    let holds = match &ran {
+        Ok(run) => is_whole(alloc, &run.results)
+            && writing_breaks_at_each_byte(alloc, &run.results),
+        Err(_) => false,
+    };
+    drop(ran);
+    holds
+}
+
 #[test]
 fn a_run_and_its_report(rt: HostRuntime) {
-    let ran = ran(&rt, rt.alloc());
-    match &ran {
-        Some(results) => {
-            assert!(rt; is_whole(rt.alloc(), results));
-            assert!(rt; writing_breaks_at_each_byte(rt.alloc(), results));
-        }
-        None => assert!(rt; false, "no run"),
-    }
-    drop(ran);
+    assert!(rt; run_holds(&rt, rt.alloc()));
 }
 
 /// The last device of these breaks after the report, and so gets all of it.
@@ -104,28 +99,5 @@ fn a_run_and_its_report(rt: HostRuntime) {
 fn a_report_to_a_device_that_breaks(rt: HostRuntime) {
     for call in 0..=demo_report().len() {
         assert!(rt; reporting_is_answered(&rt, rt.alloc(), call), "{call}");
-    }
-}
-
-// What `lifecycle` answers of a run of the demo plan, none where there is no run.
-fn lifecycle_of_run<R: Threads + Wait + Sync>(
-    rt: &R,
-    alloc: Global,
-    workers: usize,
-) -> Option<Lifecycle> {
-    let ran = run_plan(rt, alloc, demo_plan(), workers);
-    let lifecycle = match &ran {
-        Ok(run) => run.results.lifecycle(alloc).ok(),
-        Err(_) => None,
-    };
-    drop(ran);
-    lifecycle
-}
-
-#[test]
-fn runs_keep_the_lifecycle(rt: HostRuntime) {
-    for workers in [1, 4, 15] {
-        let lifecycle = lifecycle_of_run(&rt, rt.alloc(), workers);
-        assert!(rt; lifecycle == Some(Lifecycle::Kept), "{workers}");
     }
 }

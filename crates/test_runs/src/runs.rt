@@ -3,42 +3,69 @@ use crate::engines::{Asked, Seen, UnitStep, Units, engine};
 use std::alloc::Global;
 use std::sync::Wait;
 use std::sync::atomic::{AtomicU64, Ordering};
+use std::test::*;
 use std::thread::Threads;
+use test_support::{Ending, done_if, is_done, refused_if};
 use tk_engine_execute::{
-    FailedRun, Results, RunFault, UnitFault, execute, execute_many, execute_with_record,
+    FailedRun, Results, RunFault, SinkFault, UnitFault, execute, execute_many, execute_with_record,
 };
 use tk_locks::Need;
+use tk_queue_session::SendFault;
 use tk_record::Record;
 
-// What a run recorded: how many entries, the stamps of the first four, and how many events the
-// closed session says that worker 1 and that all workers emitted.
-#[derive(Clone, Copy)]
-struct Recorded {
-    entries: usize,
-    stamps: [u64; 4],
-    emitted_by_one: u64,
-    emitted: u64,
+// How a run ended.
+#[derive(Clone, Copy, PartialEq, Eq)]
+enum Outcome {
+    Recorded,
+    Workers,
+    Capacity,
+    Memory,
+    Threads,
+    // The unit that failed, and the number with which it did.
+    Own(u32, u32),
+    // The unit to which memory was refused.
+    OfMemory(u32),
+    // The unit that emitted an event of an unknown key, and that key.
+    UnknownKey(u32, u32),
+    // The unit that failed otherwise.
+    Other(u32),
 }
 
-// What a run answered, and what the engine saw of it.
-#[derive(Drop)]
+// How a run ended, how many entries it recorded, the stamps of the first four, and how many events
+// the closed session says that worker 1 and that all workers emitted; and what the engine saw.
+#[derive(Clone, Copy)]
 struct Ran {
-    answer: Result<Recorded, RunFault>,
+    outcome: Outcome,
+    entries: usize,
+    stamps: (u64, u64, u64, u64),
+    emitted_by_one: u64,
+    emitted: u64,
     seen: Seen,
 }
 
-// Nothing of an engine's run.
-const NOT_ASKED: Asked = Asked { times: 0, ended: 0 };
-
-const NOTHING: Seen = Seen {
-    begun: 0,
-    ended: 0,
-    before: NOT_ASKED,
-    after: NOT_ASKED,
-};
-
 // The bits of 60 units.
 const ALL_OF_60: u64 = (1 << 60) - 1;
+
+fn of_unit(unit: u32, why: &UnitFault) -> Outcome {
+    match why {
+        UnitFault::Own(number) => Outcome::Own(unit, *number),
+        UnitFault::Memory => Outcome::OfMemory(unit),
+        UnitFault::Sink(SinkFault::Send(SendFault::UnknownNode(event))) => {
+            Outcome::UnknownKey(unit, event.key)
+        }
+        _ => Outcome::Other(unit),
+    }
+}
+
+fn of_fault(fault: &RunFault) -> Outcome {
+    match fault {
+        RunFault::Workers => Outcome::Workers,
+        RunFault::Capacity => Outcome::Capacity,
+        RunFault::Memory => Outcome::Memory,
+        RunFault::Threads => Outcome::Threads,
+        RunFault::Engine(unit, why) => of_unit(*unit, why),
+    }
+}
 
 // How many events the closed session says that the workers emitted.
 fn emitted(results: &Results) -> u64 {
@@ -49,200 +76,144 @@ fn emitted(results: &Results) -> u64 {
     all
 }
 
-// The stamps of the first four entries, and 0 where there are fewer.
-fn stamps(record: &Record) -> [u64; 4] {
-    let mut stamps = [0u64; 4];
-    for position in 0..4usize {
-        if let Some(entry) = record.entry(position) {
-            stamps[position] = entry.stamp;
-        }
-    }
-    stamps
-}
-
-impl Recorded {
-    fn of(results: &Results) -> Recorded {
-        Recorded {
-            entries: results.recorded().len(),
-            stamps: stamps(results.recorded()),
-            emitted_by_one: results.closed().emitted(1),
-            emitted: emitted(results),
-        }
+// The stamp of an entry, and 0 where there is none.
+fn stamp(record: &Record, position: usize) -> u64 {
+    match record.entry(position) {
+        Some(entry) => entry.stamp,
+        None => 0,
     }
 }
 
-// A test asks a run once, so that no test has to drop a fault.
-impl Ran {
-    // What it recorded, where it didn't fail.
-    fn recorded(self) -> Option<Recorded> {
-        let recorded = match &self.answer {
-            Ok(recorded) => Some(*recorded),
-            Err(_) => None,
-        };
-        drop(self);
-        recorded
-    }
-
-    // How many entries it recorded, and how many events the workers emitted.
-    fn counts(self) -> Option<(usize, u64)> {
-        let recorded = self.recorded()?;
-        Some((recorded.entries, recorded.emitted))
-    }
-
-    // The unit that failed with a fault of the engine's own, and that fault.
-    fn own_fault(self) -> Option<(u32, u32)> {
-        let fault = match &self.answer {
-            Err(RunFault::Engine(unit, UnitFault::Own(number))) => Some((*unit, *number)),
-            _ => None,
-        };
-        drop(self);
-        fault
-    }
-
-    // Whether it failed with the fault that has this text.
-    fn has_failed(self, alloc: Global, text: &str) -> bool {
-        let has_failed = match &self.answer {
-            Ok(_) => false,
-            Err(fault) => match format!(in alloc; "{fault}") {
-                Ok(said) => said.as_str() == text,
-                Err(_) => false,
-            },
-        };
-        drop(self);
-        has_failed
-    }
-
-    // What the engine saw of it.
-    fn seen(self) -> Seen {
-        let seen = self.seen;
-        drop(self);
-        seen
-    }
-
-    // Whether memory or a thread was refused.
-    fn is_refused(&self) -> bool {
-        matches!(self.answer, Err(RunFault::Memory | RunFault::Threads))
-    }
-
-    // Whether it ran both units of 1,000 starts, or was refused a thread, or memory before or after
-    // it ran them.
-    fn is_of_starts(self) -> bool {
-        let is_whole = self.seen.begun == 3;
-        let is_right = match &self.answer {
-            Ok(recorded) => is_whole && recorded.entries == 2_000,
-            Err(RunFault::Threads) => is_whole,
-            Err(RunFault::Memory) => is_whole || self.seen.begun == 0,
-            Err(_) => false,
-        };
-        drop(self);
-        is_right
+fn of_results(results: &Results, seen: Seen) -> Ran {
+    let record = results.recorded();
+    Ran {
+        outcome: Outcome::Recorded,
+        entries: record.len(),
+        stamps: (
+            stamp(record, 0),
+            stamp(record, 1),
+            stamp(record, 2),
+            stamp(record, 3),
+        ),
+        emitted_by_one: results.closed().emitted(1),
+        emitted: emitted(results),
+        seen,
     }
 }
 
-// Whether these stamps were recorded first; 0 stands where there is no entry.
-fn begins_with(recorded: &Option<Recorded>, stamps: [u64; 4]) -> bool {
-    match recorded {
-        Some(recorded) => {
-            recorded.stamps[0] == stamps[0]
-                && recorded.stamps[1] == stamps[1]
-                && recorded.stamps[2] == stamps[2]
-                && recorded.stamps[3] == stamps[3]
-        }
-        None => false,
+fn of_failure(fault: &RunFault, seen: Seen) -> Ran {
+    Ran {
+        outcome: of_fault(fault),
+        entries: 0,
+        stamps: (0, 0, 0, 0),
+        emitted_by_one: 0,
+        emitted: 0,
+        seen,
     }
 }
 
-// How many entries were recorded, and how many events worker 1 and all workers emitted.
-fn shares(recorded: &Option<Recorded>) -> (usize, u64, u64) {
-    match recorded {
-        Some(it) => (it.entries, it.emitted_by_one, it.emitted),
-        None => (0, 0, 0),
-    }
-}
-
-// Runs these units by this number of workers, through a queue of this capacity.
+// Runs these units by this number of workers, through a queue of this capacity; none where memory
+// was refused before.
 fn run<R: Threads + Wait + Sync>(
     rt: &R,
     alloc: Global,
     units: &Units<'_>,
     workers: usize,
     capacity: usize,
-) -> Ran {
-    let Some(engine) = engine(alloc, units) else {
-        // No allocation failed here: one failed in `engine`.
-        return Ran {
-            answer: Err(RunFault::Memory),
-            seen: NOTHING,
-        };
+) -> Option<Ran> {
+    let engine = engine(alloc, units)?;
+    let answer = execute(rt, alloc, &engine, workers, capacity);
+    let seen = engine.seen();
+    let ran = match &answer {
+        Ok(results) => of_results(results, seen),
+        Err(fault) => of_failure(fault, seen),
     };
-    let answer = match execute(rt, alloc, &engine, workers, capacity) {
-        Ok(results) => Ok(Recorded::of(&results)),
-        Err(fault) => Err(fault),
-    };
-    Ran {
-        answer,
-        seen: engine.seen(),
-    }
+    drop(answer);
+    Some(ran)
 }
 
-// How many entries a failed run has recorded, the stamps of the first two, and whether they are all
-// that the workers emitted.
-fn kept(failed: &FailedRun) -> Option<(usize, u64, u64, bool)> {
-    let record = failed.recorded.as_ref()?;
-    let stamps = stamps(record);
-    Some((record.len(), stamps[0], stamps[1], failed.is_complete))
-}
-
-// Runs these units by this number of workers, and says what is kept where the run fails.
-fn run_with_record<R: Threads + Wait + Sync>(
+// How the run of these units by this number of workers ends.
+fn outcome_of<R: Threads + Wait + Sync>(
     rt: &R,
     alloc: Global,
     units: &Units<'_>,
     workers: usize,
-) -> Option<(usize, u64, u64, bool)> {
-    let engine = engine(alloc, units)?;
-    match execute_with_record(rt, alloc, &engine, workers, 64) {
-        Ok(_) => None,
-        Err(failed) => kept(&failed),
-    }
+    capacity: usize,
+) -> Option<Outcome> {
+    Some(run(rt, alloc, units, workers, capacity)?.outcome)
 }
 
-// Whether `execute_many` finds one of three runs of these units of which the check is false, and how
-// often it calls the check, which is true of the first `passing` runs.
-fn checked_runs<R: Threads + Wait + Sync>(
+// Whether so many units that emit one start each are recorded.
+fn are_recorded<R: Threads + Wait + Sync>(
     rt: &R,
     alloc: Global,
-    units: &Units<'_>,
-    passing: u64,
-) -> Option<(bool, u64)> {
-    let engine = engine(alloc, units)?;
-    let calls = AtomicU64::new(0);
-    let counter = &calls;
-    let check = move |_results: &Results| counter.fetch_add(1, Ordering::SeqCst) < passing;
-    let found = execute_many(rt, alloc, &engine, 2, 64, 3, &check).ok()?;
-    Some((found.is_some(), calls.load(Ordering::SeqCst)))
+    units: u32,
+    workers: usize,
+    capacity: usize,
+) -> bool {
+    let alike = Units::alike(units, &[UnitStep::Start(0)]);
+    match run(rt, alloc, &alike, workers, capacity) {
+        Some(ran) => ran.entries == units as usize && ran.emitted == units as u64,
+        None => false,
+    }
 }
 
 #[test]
 fn one_to_fifteen_workers_run_all_units(rt: HostRuntime) {
-    let steps = [UnitStep::Start(0), UnitStep::Start(1)];
     for workers in 1..=15usize {
-        let ran = run(&rt, rt.alloc(), &Units::alike(300, &steps), workers, 3);
-        assert!(rt; matches!(ran.counts(), Some((600, 600))), "{workers}");
+        assert!(rt; are_recorded(&rt, rt.alloc(), 300, workers, 3), "{workers}");
     }
 }
 
 #[test]
-fn no_unit_is_a_run(rt: HostRuntime) {
-    let ran = run(&rt, rt.alloc(), &Units::alike(0, &[]), 15, 1);
-    assert!(rt; matches!(ran.counts(), Some((0, 0))));
+fn no_unit_and_as_many_as_may_be(rt: HostRuntime) {
+    for (units, workers, capacity) in [(0, 15, 1), (1, 15, 1024), (65_536, 2, 1024)] {
+        assert!(rt;
+            are_recorded(&rt, rt.alloc(), units, workers, capacity),
+            "{units}"
+        );
+    }
+}
+
+/// As many events come before the units as a worker may emit, and a unit emits one more.
+#[test]
+fn many_events(rt: HostRuntime) {
+    let units = Units {
+        starts_before: 1_048_576,
+        ..Units::alike(1, &[UnitStep::Start(0)])
+    };
+    let ran = run(&rt, rt.alloc(), &units, 1, 64);
+    assert!(rt; matches!(ran, Some(ran) if ran.entries == 1_048_577 && ran.emitted == 1));
+}
+
+#[test]
+fn workers_and_capacity(rt: HostRuntime) {
+    let units = Units::alike(1, &[UnitStep::Start(0)]);
+    for workers in [0, 16] {
+        let outcome = outcome_of(&rt, rt.alloc(), &units, workers, 1);
+        assert!(rt; outcome == Some(Outcome::Workers), "{workers}");
+    }
+    for capacity in [0, 1025] {
+        let outcome = outcome_of(&rt, rt.alloc(), &units, 1, capacity);
+        assert!(rt; outcome == Some(Outcome::Capacity), "{capacity}");
+    }
 }
 
 #[test]
 fn side_by_side(rt: HostRuntime) {
     let units = Units::beside(2, &[UnitStep::Await(1, 1)], &[UnitStep::Begin]);
-    let ran = run(&rt, rt.alloc(), &units, 2, 64);
-    assert!(rt; ran.counts().is_some());
+    assert!(rt; outcome_of(&rt, rt.alloc(), &units, 2, 64) == Some(Outcome::Recorded));
+}
+
+/// Two units that write different resources, each of which waits until the other one has begun.
+#[test]
+fn writers_of_different_resources(rt: HostRuntime) {
+    let units = Units {
+        need: Need::of(1, 2),
+        need_of_others: Need::of(1, 4),
+        ..Units::alike(2, &[UnitStep::Begin, UnitStep::Await(2, 1)])
+    };
+    assert!(rt; outcome_of(&rt, rt.alloc(), &units, 2, 64) == Some(Outcome::Recorded));
 }
 
 #[test]
@@ -254,10 +225,9 @@ fn events_as_they_are_emitted(rt: HostRuntime) {
         UnitStep::Start(3),
     ];
     let other = [UnitStep::Await(1, 3), UnitStep::Start(2), UnitStep::Begin];
-    let units = Units::beside(2, &first, &other);
-    let recorded = run(&rt, rt.alloc(), &units, 2, 64).recorded();
-    assert!(rt; begins_with(&recorded, [1, 2, 3, 0]));
-    assert!(rt; matches!(shares(&recorded), (3, 1 | 2, 3)));
+    let ran = run(&rt, rt.alloc(), &Units::beside(2, &first, &other), 2, 64);
+    assert!(rt; matches!(ran, Some(ran) if ran.stamps == (1, 2, 3, 0) && ran.emitted == 3));
+    assert!(rt; matches!(ran, Some(ran) if ran.emitted_by_one == 1 || ran.emitted_by_one == 2));
 }
 
 #[test]
@@ -265,55 +235,60 @@ fn one_shared_book(rt: HostRuntime) {
     let first = [UnitStep::Start(7), UnitStep::Alone(2), UnitStep::Start(7)];
     let other = [UnitStep::Start(8), UnitStep::Alone(2), UnitStep::Start(8)];
     let units = Units {
-        starts_before: 0,
-        count: 2,
         need: Need::of(0, 1),
         need_of_others: Need::of(0, 1),
-        first: &first,
-        others: &other,
+        ..Units::beside(2, &first, &other)
     };
-    let recorded = run(&rt, rt.alloc(), &units, 2, 64).recorded();
-    assert!(rt; begins_with(&recorded, [7, 7, 8, 8]) || begins_with(&recorded, [8, 8, 7, 7]));
-}
-
-#[test]
-fn workers_and_capacity(rt: HostRuntime) {
-    let units = Units::alike(1, &[UnitStep::Start(0)]);
-    for workers in [0, 16] {
-        let ran = run(&rt, rt.alloc(), &units, workers, 1);
-        let has_failed = ran.has_failed(rt.alloc(), "workers must be 1 to 15");
-        assert!(rt; has_failed, "{workers}");
-    }
-    for capacity in [0, 1025] {
-        let ran = run(&rt, rt.alloc(), &units, 1, capacity);
-        let has_failed = ran.has_failed(rt.alloc(), "capacity must be 1 to 1024");
-        assert!(rt; has_failed, "{capacity}");
-    }
-    let ran = run(&rt, rt.alloc(), &units, 15, 1024);
-    assert!(rt; matches!(ran.counts(), Some((1, _))));
-}
-
-#[test]
-fn a_failure_names_its_unit(rt: HostRuntime) {
-    let fails = [UnitStep::Start(1), UnitStep::Fail(3)];
-    let ran = run(&rt, rt.alloc(), &Units::alike(2, &fails), 1, 64);
-    assert!(rt; matches!(ran.own_fault(), Some((0, 3))));
-    let ran = run(&rt, rt.alloc(), &Units::beside(3, &[], &fails), 1, 64);
-    assert!(rt; matches!(ran.own_fault(), Some((1, 3))));
+    let stamps = match run(&rt, rt.alloc(), &units, 2, 64) {
+        Some(ran) => ran.stamps,
+        None => (0, 0, 0, 0),
+    };
+    assert!(rt; stamps == (7, 7, 8, 8) || stamps == (8, 8, 7, 7));
 }
 
 /// The fault of a unit is handed on as it is, with the unit's number.
 #[test]
 fn a_failure_is_handed_on(rt: HostRuntime) {
-    let own = Units::alike(1, &[UnitStep::Fail(u32::MAX)]);
-    let ran = run(&rt, rt.alloc(), &own, 1, 64);
-    assert!(rt; matches!(ran.own_fault(), Some((0, u32::MAX))));
-    let memory = Units::beside(2, &[], &[UnitStep::FailForMemory]);
-    let ran = run(&rt, rt.alloc(), &memory, 1, 64);
-    assert!(rt; ran.has_failed(rt.alloc(), "unit 1 failed: out of memory"));
-    let sink = Units::beside(2, &[], &[UnitStep::StartOf(9)]);
-    let ran = run(&rt, rt.alloc(), &sink, 15, 64);
-    assert!(rt; ran.has_failed(rt.alloc(), "unit 1 failed: unknown key 9"));
+    let rows = [
+        (UnitStep::Fail(3), Outcome::Own(1, 3)),
+        (UnitStep::Fail(u32::MAX), Outcome::Own(1, u32::MAX)),
+        (UnitStep::FailForMemory, Outcome::OfMemory(1)),
+        (UnitStep::StartOf(9), Outcome::UnknownKey(1, 9)),
+    ];
+    for (step, wanted) in rows {
+        let steps = [UnitStep::Start(1), step];
+        let outcome = outcome_of(&rt, rt.alloc(), &Units::beside(3, &[], &steps), 1, 64);
+        assert!(rt; outcome == Some(wanted));
+    }
+}
+
+// How many entries a failed run has recorded, the stamps of the first two, and whether they are all
+// that the workers emitted.
+fn kept(failed: &FailedRun) -> Option<(usize, u64, u64, bool)> {
+    let record = failed.recorded.as_ref()?;
+    Some((
+        record.len(),
+        stamp(record, 0),
+        stamp(record, 1),
+        failed.is_complete,
+    ))
+}
+
+// Runs these units by this number of workers, and says what is kept where the run fails.
+fn run_with_record<R: Threads + Wait + Sync>(
+    rt: &R,
+    alloc: Global,
+    units: &Units<'_>,
+    workers: usize,
+) -> Option<(usize, u64, u64, bool)> {
+    let engine = engine(alloc, units)?;
+    let answer = execute_with_record(rt, alloc, &engine, workers, 64);
+    let kept = match &answer {
+        Ok(_) => None,
+        Err(failed) => kept(failed),
+    };
+    drop(answer);
+    kept
 }
 
 /// Of a unit that failed after two events the record has both.
@@ -321,143 +296,159 @@ fn a_failure_is_handed_on(rt: HostRuntime) {
 fn a_failed_run_keeps_its_record(rt: HostRuntime) {
     let fails = [UnitStep::Start(1), UnitStep::Start(2), UnitStep::Fail(3)];
     let units = Units::beside(2, &fails, &[]);
-    let kept = run_with_record(&rt, rt.alloc(), &units, 2);
-    assert!(rt; matches!(kept, Some((2, 1, 2, true))));
-    let refused = run_with_record(&rt, rt.alloc(), &units, 0);
-    assert!(rt; refused.is_none());
+    assert!(rt; run_with_record(&rt, rt.alloc(), &units, 2) == Some((2, 1, 2, true)));
+    assert!(rt; run_with_record(&rt, rt.alloc(), &units, 0).is_none());
+}
+
+// Whether `execute_many` finds one of three runs of two units of which the check is false, and how
+// often it calls the check, which is true of the first `passing` runs.
+fn checked_runs<R: Threads + Wait + Sync>(
+    rt: &R,
+    alloc: Global,
+    passing: u64,
+) -> Option<(bool, u64)> {
+    let engine = engine(alloc, &Units::alike(2, &[UnitStep::Start(0)]))?;
+    let calls = AtomicU64::new(0);
+    let counter = &calls;
+    let check = move |_results: &Results| counter.fetch_add(1, Ordering::SeqCst) < passing;
+    let found = execute_many(rt, alloc, &engine, 2, 64, 3, &check);
+    let is_found = match &found {
+        Ok(found) => Some(found.is_some()),
+        Err(_) => None,
+    };
+    drop(found);
+    Some((is_found?, calls.load(Ordering::SeqCst)))
 }
 
 /// Many runs end at the first of which the check is false, or once there were as many as asked for.
 #[test]
 fn many_runs_end_where_the_check_is_false(rt: HostRuntime) {
-    let units = Units::alike(2, &[UnitStep::Start(0)]);
-    for passing in 0..3u64 {
-        let found = checked_runs(&rt, rt.alloc(), &units, passing);
-        assert!(rt; found == Some((true, passing + 1)), "{passing}");
-    }
-    let none = checked_runs(&rt, rt.alloc(), &units, 3);
-    assert!(rt; matches!(none, Some((false, 3))));
-}
-
-#[test]
-fn as_many_units_as_may_be(rt: HostRuntime) {
-    let units = Units::alike(65_536, &[UnitStep::Start(0)]);
-    let ran = run(&rt, rt.alloc(), &units, 2, 1024);
-    assert!(rt; matches!(ran.counts(), Some((65_536, 65_536))));
-}
-
-/// As many events come before the units as a worker may emit, and a unit emits one more.
-#[test]
-fn many_events(rt: HostRuntime) {
-    let units = Units {
-        starts_before: 1_048_576,
-        ..Units::alike(1, &[UnitStep::Start(0)])
-    };
-    let ran = run(&rt, rt.alloc(), &units, 1, 64);
-    assert!(rt; matches!(ran.counts(), Some((1_048_577, 1))));
-}
-
-/// Two units that write different resources, each of which waits until the other one has begun.
-#[test]
-fn writers_of_different_resources(rt: HostRuntime) {
-    let steps = [UnitStep::Begin, UnitStep::Await(2, 1)];
-    let units = Units {
-        starts_before: 0,
-        count: 2,
-        need: Need::of(1, 2),
-        need_of_others: Need::of(1, 4),
-        first: &steps,
-        others: &steps,
-    };
-    let ran = run(&rt, rt.alloc(), &units, 2, 64);
-    assert!(rt; ran.counts().is_some());
-}
-
-/// Each of 60 units waits until every worker has one.
-#[test]
-fn each_unit_is_run_once(rt: HostRuntime) {
-    for workers in [1u32, 2, 15] {
-        let steps = [UnitStep::Begin, UnitStep::Await(workers, 1)];
-        let units = Units::alike(60, &steps);
-        let ran = run(&rt, rt.alloc(), &units, workers as usize, 64);
-        let begun = ran.seen.begun;
-        assert!(rt; ran.counts().is_some() && begun == ALL_OF_60, "{workers}");
+    for (passing, found) in [
+        (0, (true, 1)),
+        (1, (true, 2)),
+        (2, (true, 3)),
+        (3, (false, 3)),
+    ] {
+        assert!(rt;
+            checked_runs(&rt, rt.alloc(), passing) == Some(found),
+            "{passing}"
+        );
     }
 }
 
-/// The events before the units are asked for once, before a unit begins, and those after them once,
-/// when each unit has come to its end; not where a unit failed.
+// What 60 units saw that each wait until every worker has one, and then do this.
+fn seen_by_all<R: Threads + Wait + Sync>(
+    rt: &R,
+    alloc: Global,
+    workers: u32,
+    last: UnitStep,
+) -> Option<Seen> {
+    let steps = [
+        UnitStep::Begin,
+        UnitStep::Await(workers, 1),
+        UnitStep::End,
+        last,
+    ];
+    Some(run(rt, alloc, &Units::alike(60, &steps), workers as usize, 64)?.seen)
+}
+
+/// Each unit is run. The events before the units are asked for once, before a unit begins, and those
+/// after them once, when each unit has come to its end; not where a unit failed.
 #[test]
 fn before_and_after_are_asked_once(rt: HostRuntime) {
-    let before = Asked { times: 1, ended: 0 };
-    let after = Asked {
+    let not_asked = Asked { times: 0, ended: 0 };
+    let first = Asked { times: 1, ended: 0 };
+    let last = Asked {
         times: 1,
         ended: ALL_OF_60,
     };
-    for workers in [1usize, 2, 15] {
-        let units = Units::alike(60, &[UnitStep::Begin, UnitStep::End]);
-        let seen = run(&rt, rt.alloc(), &units, workers, 64).seen();
-        assert!(rt; seen.before == before && seen.after == after, "{workers}");
-        let failing = Units::alike(60, &[UnitStep::Begin, UnitStep::End, UnitStep::Fail(1)]);
-        let seen = run(&rt, rt.alloc(), &failing, workers, 64).seen();
+    for workers in [1u32, 2, 15] {
+        let seen = seen_by_all(&rt, rt.alloc(), workers, UnitStep::Start(0));
         assert!(rt;
-            seen.before == before && seen.after == NOT_ASKED,
+            matches!(seen, Some(seen) if seen.begun == ALL_OF_60 && seen.before == first && seen.after == last),
+            "{workers}"
+        );
+        let seen = seen_by_all(&rt, rt.alloc(), workers, UnitStep::Fail(1));
+        assert!(rt;
+            matches!(seen, Some(seen) if seen.before == first && seen.after == not_asked),
             "{workers}"
         );
     }
 }
 
-/// Each worker fails at its first unit, once all have one: what is answered is the fault of worker 1, and its unit.
-#[test]
-fn all_workers_fail(rt: HostRuntime) {
-    for workers in [1u32, 2, 15] {
-        let steps = [
-            UnitStep::Begin,
-            UnitStep::Await(workers, 1),
-            UnitStep::FailAsWorker,
-        ];
-        let units = Units::alike(60, &steps);
-        let ran = run(&rt, rt.alloc(), &units, workers as usize, 64);
-        let begun = ran.seen.begun.count_ones();
-        let is_right = match ran.own_fault() {
-            Some((unit, fault)) => fault == unit.wrapping_add(1_000),
-            None => false,
-        };
-        assert!(rt; is_right && begun == workers, "{workers}");
+// Whether a run of so many workers, each of which fails at its first unit once all have one, answers
+// the fault of worker 1, and its unit.
+fn first_has_failed<R: Threads + Wait + Sync>(rt: &R, alloc: Global, workers: u32) -> bool {
+    let steps = [
+        UnitStep::Begin,
+        UnitStep::Await(workers, 1),
+        UnitStep::FailAsWorker,
+    ];
+    match run(rt, alloc, &Units::alike(60, &steps), workers as usize, 64) {
+        Some(ran) => match ran.outcome {
+            Outcome::Own(unit, fault) => {
+                fault == unit.wrapping_add(1_000) && ran.seen.begun.count_ones() == workers
+            }
+            _ => false,
+        },
+        None => false,
     }
 }
 
-// A run of two units, by two workers through a queue of capacity one. Each unit has 1,000 starts between its first step
-// and this last one.
-fn run_of_starts<R: Threads + Wait + Sync>(rt: &R, alloc: Global, last: UnitStep) -> Ran {
+#[test]
+fn all_workers_fail(rt: HostRuntime) {
+    for workers in [1u32, 2, 15] {
+        assert!(rt; first_has_failed(&rt, rt.alloc(), workers), "{workers}");
+    }
+}
+
+// A run of two units, by two workers through a queue of capacity one. Each unit has 1,000 starts
+// between its first step and this last one.
+fn run_of_starts<R: Threads + Wait + Sync>(rt: &R, alloc: Global, last: UnitStep) -> Option<Ran> {
     let mut steps = [UnitStep::Start(0); 1_002];
     steps[0] = UnitStep::Begin;
     steps[1_001] = last;
     run(rt, alloc, &Units::alike(2, &steps), 2, 1)
 }
 
-/// Such a run with ample memory, and with any one request for memory or any one thread refused. The workers that were
-/// started draw both units and run them to their end, even where the other worker has no thread.
-#[test]
-fn a_refused_run(rt: HostRuntime) {
-    let first = run_of_starts(&rt, rt.alloc(), UnitStep::End);
-    let is_refused = first.is_refused();
-    assert_eq!(rt; first.seen.begun, first.seen.ended);
-    assert!(rt; first.is_of_starts());
-    if is_refused {
-        let again = run_of_starts(&rt, rt.alloc(), UnitStep::End);
-        assert!(rt; matches!(again.counts(), Some((2_000, _))));
+// The workers that were started draw both units and run them to their end, even where the other
+// worker has no thread.
+fn of_starts(ran: Option<Ran>) -> Ending {
+    let Some(ran) = ran else {
+        return Ending::Refused;
+    };
+    let begun = ran.seen.begun;
+    if begun != ran.seen.ended {
+        return Ending::Wrong;
+    }
+    match ran.outcome {
+        Outcome::Recorded => done_if(begun == 3 && ran.entries == 2_000),
+        Outcome::Threads => refused_if(begun == 3),
+        Outcome::Memory => refused_if(begun == 3 || begun == 0),
+        _ => Ending::Wrong,
     }
 }
 
-/// Such a run whose units fail at their last step: what a unit answered is what the run answers, whatever else was
-/// refused after the unit had begun.
+/// Such a run with ample memory, and with any one request for memory or any one thread refused.
+#[test]
+fn a_refused_run(rt: HostRuntime) {
+    assert!(rt; is_done(|| of_starts(run_of_starts(&rt, rt.alloc(), UnitStep::End))));
+}
+
+fn of_failing_starts(ran: Option<Ran>) -> Ending {
+    let Some(ran) = ran else {
+        return Ending::Refused;
+    };
+    match ran.outcome {
+        Outcome::Own(_, fault) => done_if(fault == 5),
+        Outcome::Threads | Outcome::Memory => refused_if(ran.seen.begun == 0),
+        _ => Ending::Wrong,
+    }
+}
+
+/// Such a run whose units fail at their last step: what a unit answered is what the run answers,
+/// whatever else was refused after the unit had begun.
 #[test]
 fn a_refused_run_that_fails(rt: HostRuntime) {
-    let mut ran = run_of_starts(&rt, rt.alloc(), UnitStep::Fail(5));
-    if ran.is_refused() {
-        assert_eq!(rt; ran.seen.begun, 0);
-        ran = run_of_starts(&rt, rt.alloc(), UnitStep::Fail(5));
-    }
-    assert!(rt; matches!(ran.own_fault(), Some((_, 5))));
+    assert!(rt; is_done(|| of_failing_starts(run_of_starts(&rt, rt.alloc(), UnitStep::Fail(5)))));
 }

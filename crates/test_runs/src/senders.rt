@@ -35,15 +35,12 @@ fn send_all<R: Wait>(rt: &R, mut sender: Sender, count: u64) -> Option<Ended>
     Some(sender.end(rt))
 }
 
-// Whether each worker's next stamp is the one that it is to be.
-fn is_next(next: &mut [u64; 16], item: Item) -> bool {
-    let Item::Entry(entry) = item else {
-        return false;
-    };
-    let index = (entry.worker % 16) as usize;
+// Whether the stamp is the worker's next one.
+fn is_next(next: &mut [u64; 16], worker: u8, stamp: u64) -> bool {
+    let index = (worker % 16) as usize;
     let wanted = next[index];
     next[index] = wanted.wrapping_add(1);
-    entry.event.stamp == wanted
+    stamp == wanted
 }
 
 // Takes until `workers` marks came, and answers how many entries there were of each worker, where each
@@ -60,8 +57,8 @@ fn take_all<R: Wait>(rt: &R, receiver: &mut Receiver, workers: u32) -> Option<[u
         }
         match receiver.take(rt) {
             Some(Item::End(_)) => left -= 1,
-            Some(entry) => {
-                if !is_next(&mut next, entry) {
+            Some(Item::Entry(entry)) => {
+                if !is_next(&mut next, entry.worker, entry.event.stamp) {
                     return None;
                 }
                 backoff.reset();

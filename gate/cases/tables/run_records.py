@@ -4,6 +4,7 @@ import form
 from harness import RecordedRun
 from tables.building import answer, fault, lines_of, record, rows
 from tables.command_lines import DEMO_REPORT, ONE_TEST_REPORT, ONE_TOO_MANY, WORKERS
+from tables.large_plans import nodes, plan, report_of
 from tables.plan_texts import children, dynamic, node, root
 from tables.schedules import PLAN, REPORT
 from tables.texts import DEMO_PLAN, ONE_TEST_PLAN
@@ -46,10 +47,14 @@ LOCKED_RECORD = record(*lines_of("LOCKED_RECORD"))
 
 WITHOUT_A_LOCK = ONE_TEST_PLAN.replace('"name"', '"locks":[{"key":""}],"name"')
 
+ON_ONE_KEY = plan(nodes("children", 200, CONCURRENT, locks("read_write db")))
+"""Two hundred tests that all write one resource."""
+
 WORKERS_OF = range(1, form.MAX_WORKERS + 1)
 
 CASES = rows(__file__, globals()) + [
     *[RecordedRun(f"run record/demo plan, {it} workers", DEMO_PLAN.encode(), it, DEMO_REPORT.encode()) for it in WORKERS_OF],
     *[RecordedRun(f"run record/twenty units with locks, {it} workers", PLAN.encode(), it, REPORT.encode()) for it in WORKERS_OF],
+    RecordedRun("run record/many tests on one key", ON_ONE_KEY, form.MAX_WORKERS, report_of(200)),
     RecordedRun("run record/more workers than units", ONE_TEST_PLAN.encode(), form.MAX_WORKERS, ONE_TEST_REPORT.encode()),
 ]
