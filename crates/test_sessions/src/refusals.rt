@@ -2,14 +2,15 @@
 //! has to succeed: each test passes with ample memory, and with any one request for memory refused.
 use crate::books::{are_granted, four_share};
 use crate::claims::drawn_by_two;
-use crate::ends::{TakenItem, register, take, taken, two_senders};
+use crate::ends::{TakenItem, register, take, two_senders};
+use crate::replays::{emit, takes};
 use std::alloc::Global;
 use std::sync::Wait;
 use std::test::*;
 use test_support::{
-    Ending, again_if_refused, done_if, is_done, refused_if, small_replay, small_replay_taken, start,
+    Ending, again_if_refused, done_if, is_done, refused_if, small_replay, small_replay_taken,
 };
-use tk_events::{Event, Kind};
+use tk_events::Kind;
 use tk_ids::Segment;
 use tk_queue_core::{Core, CoreFault};
 use tk_queue_replay::{ReplayFault, replay_text};
@@ -43,18 +44,11 @@ fn a_replay(rt: HostRuntime) {
 }
 
 // Where memory is refused, the event comes back.
-fn ending_of_emission(answer: &Result<(), (CoreFault, Event)>, stamp: u64) -> Ending {
-    match answer {
-        Ok(()) => Ending::Done,
-        Err((fault, event)) => refused_if(*fault == CoreFault::Memory && event.stamp == stamp),
-    }
-}
-
 fn emitted(core: &mut Core, stamp: u64) -> Ending {
-    let answer = core.emit(1, start(0, stamp));
-    let ending = ending_of_emission(&answer, stamp);
-    drop(answer);
-    ending
+    match emit(core, 1, stamp) {
+        None => Ending::Done,
+        Some(refused) => refused_if(refused == (CoreFault::Memory, stamp)),
+    }
 }
 
 // Whether a thousand starts are emitted, each at once or where it is emitted once more.
@@ -70,10 +64,7 @@ fn are_emitted(core: &mut Core) -> bool {
 // Whether these are taken in their order.
 fn are_taken(core: &mut Core) -> bool {
     for stamp in 0..1_000 {
-        let item = core.take();
-        let is_right = taken(&item) == TakenItem::Entry(1, Kind::Started, 0, stamp);
-        drop(item);
-        if !is_right {
+        if !takes(core, TakenItem::Entry(1, Kind::Started, 0, stamp)) {
             return false;
         }
     }
@@ -94,16 +85,6 @@ fn registered<R: Wait>(rt: &R, sender: &mut Sender, segment: &Segment) -> Ending
     }
 }
 
-// The two senders of a session and their receiver, also where one request for memory is refused.
-fn opened(alloc: Global) -> Option<(Sender, Sender, Receiver)> {
-    again_if_refused(|| two_senders(alloc, 4))
-}
-
-// The segment `[dyn:1]`, also where one request for memory is refused.
-fn made_segment(alloc: Global) -> Option<Segment> {
-    again_if_refused(|| Segment::new(alloc, "dyn", "1").ok())
-}
-
 // Whether worker 2 registers the segment, and its registration is taken, and nothing else.
 fn is_registered<R: Wait>(
     rt: &R,
@@ -116,16 +97,16 @@ fn is_registered<R: Wait>(
         && take(rt, receiver) == TakenItem::Nothing
 }
 
-// Whether worker 2 of a session of two senders registers a segment, and nothing else is taken.
+// Whether worker 2 of a session of two senders does so.
 fn registers<R: Wait>(rt: &R, alloc: Global) -> Option<bool> {
-    let segment = made_segment(alloc)?;
-    let (_first, mut second, mut receiver) = opened(alloc)?;
+    let segment = Segment::new(alloc, "dyn", "1").ok()?;
+    let (_first, mut second, mut receiver) = two_senders(alloc, 4)?;
     Some(is_registered(rt, &mut second, &mut receiver, &segment))
 }
 
 #[test]
 fn a_registration(rt: HostRuntime) {
-    assert!(rt; registers(&rt, rt.alloc()) == Some(true));
+    assert!(rt; again_if_refused(|| registers(&rt, rt.alloc())) == Some(true));
 }
 
 #[test]

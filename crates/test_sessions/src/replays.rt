@@ -10,43 +10,40 @@ use tk_queue_core::{Core, CoreFault};
 use tk_queue_replay::{ReplayFault, Replayed, Turn, replay, replay_text};
 use tk_streams::{ByteTarget, Source, Target};
 
-fn emits(core: &mut Core, worker: u8, stamp: u64) -> bool {
-    core.emit(worker, start(0, stamp)).is_ok()
+// The fault, and the stamp of the event that came back.
+fn refused(answer: &Result<(), (CoreFault, Event)>) -> Option<(CoreFault, u64)> {
+    match answer {
+        Ok(()) => None,
+        Err((fault, event)) => Some((*fault, event.stamp)),
+    }
 }
 
-fn ends(core: &mut Core, worker: u8) -> bool {
-    core.end(worker).is_ok()
+/// Emits a start, and returns why it was refused and the stamp of the event that came back.
+pub fn emit(core: &mut Core, worker: u8, stamp: u64) -> Option<(CoreFault, u64)> {
+    let answer = core.emit(worker, start(0, stamp));
+    let refused = refused(&answer);
+    drop(answer);
+    refused
 }
 
-fn takes(core: &mut Core, want: TakenItem) -> bool {
+/// Returns whether this is taken next.
+pub fn takes(core: &mut Core, want: TakenItem) -> bool {
     let item = core.take();
     let is_right = taken(&item) == want;
     drop(item);
     is_right
 }
 
-// Whether the start comes back, for that reason.
-fn refuses(core: &mut Core, worker: u8, stamp: u64, why: CoreFault) -> bool {
-    let answer = core.emit(worker, start(0, stamp));
-    let is_right = match &answer {
-        Ok(()) => false,
-        Err((fault, event)) => *fault == why && event.stamp == stamp,
-    };
-    drop(answer);
-    is_right
-}
-
 #[test]
 fn core_turns(rt: HostRuntime) {
     let mut core = Core::new(rt.alloc(), 2);
-    let is_ended = emits(&mut core, 1, 7)
-        && ends(&mut core, 1)
-        && refuses(&mut core, 1, 8, CoreFault::AfterEnd)
-        && refuses(&mut core, 3, 9, CoreFault::Worker);
-    let is_taken = takes(&mut core, TakenItem::Entry(1, Kind::Started, 0, 7))
+    assert!(rt; emit(&mut core, 1, 7).is_none() && core.end(1).is_ok());
+    assert!(rt; emit(&mut core, 1, 8) == Some((CoreFault::AfterEnd, 8)));
+    assert!(rt; emit(&mut core, 3, 9) == Some((CoreFault::Worker, 9)));
+    let are_taken = takes(&mut core, TakenItem::Entry(1, Kind::Started, 0, 7))
         && takes(&mut core, TakenItem::End(1))
         && takes(&mut core, TakenItem::Nothing);
-    assert!(rt; is_ended && is_taken);
+    assert!(rt; are_taken);
 }
 
 // A script of starts with these stamps.
