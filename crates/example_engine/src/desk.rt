@@ -2,8 +2,8 @@
 use self::Command::{Abort, Fail, File, Report, Rows};
 use self::Planned::{Isolated, Reads, Skipped, Writes};
 use engine_testkit::{
-    Bodies, Body, BuildFault, Context, ExecutionMode, Hierarchical, LockMode, Outcome, PlanNode,
-    Reporter, Tests, UnitFault, build_plan,
+    Bodies, Body, BuildFault, Context, DType, ExecutionMode, Hierarchical, LockMode, Outcome,
+    PlanNode, Reporter, Tests, UnitFault, build_plan,
 };
 use std::alloc::{AllocError, Global};
 
@@ -81,11 +81,11 @@ impl Tests for DeskTests {
 // A test as a node of the plan.
 fn test_node(alloc: Global, test: Test) -> Result<PlanNode<'static>, AllocError> {
     let (group, name, planned, command) = test;
-    let node = match command {
-        Rows(..) => PlanNode::container_and_test(alloc, ("test", name), name),
-        _ => PlanNode::test(alloc, ("test", name), name),
+    let dtype = match command {
+        Rows(..) => DType::Both,
+        _ => DType::Test,
     };
-    let node = node.mode(ExecutionMode::Concurrent);
+    let node = PlanNode::new(alloc, dtype, ("test", name), name).mode(ExecutionMode::Concurrent);
     match planned {
         Reads => node.lock(group, LockMode::Read),
         Writes => node.lock(group, LockMode::ReadWrite),

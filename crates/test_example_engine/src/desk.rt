@@ -31,11 +31,9 @@ files 1
 [engine:desk]/[group:printer]/[test:poster]\n  start\n  finish|abort|no ink
 ";
 
-#[test]
-fn tests_keep_their_locks(rt: HostRuntime) -> Result<(), Failure> {
-    let alloc = rt.alloc();
-    let results = execute(&rt, alloc, &desk_engine(alloc)?, 3, 16)?;
-    Expect::of(alloc, results.recorded())
+// Expects that tests on one resource keep away from each other.
+fn expect_locks(expect: Expect<'_>) -> Result<(), Failure> {
+    expect
         .lifecycle()?
         .locks()?
         .exclusive("all(test,segment(group,printer))")?
@@ -43,11 +41,9 @@ fn tests_keep_their_locks(rt: HostRuntime) -> Result<(), Failure> {
     Ok(())
 }
 
-#[test]
-fn tests_are_reported(rt: HostRuntime) -> Result<(), Failure> {
-    let alloc = rt.alloc();
-    let results = execute(&rt, alloc, &desk_engine(alloc)?, 3, 16)?;
-    Expect::of(alloc, results.recorded())
+// Expects that each test reports what it does.
+fn expect_events(expect: Expect<'_>) -> Result<(), Failure> {
+    expect
         .report(REPORT)?
         .pick(Selection::Tests)
         .stats("started=7 skipped=1 failed=1 aborted=1")?
@@ -59,4 +55,13 @@ fn tests_are_reported(rt: HostRuntime) -> Result<(), Failure> {
             "succeeded",
         ])?;
     Ok(())
+}
+
+#[test]
+fn each_test_of_the_desk(rt: HostRuntime) -> Result<(), Failure> {
+    let alloc = rt.alloc();
+    let results = execute(&rt, alloc, &desk_engine(alloc)?, 3, 16)?;
+    let expect = Expect::of(alloc, results.recorded());
+    expect_locks(expect)?;
+    expect_events(expect)
 }

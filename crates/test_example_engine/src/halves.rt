@@ -1,11 +1,11 @@
 //! Halves of numbers, in three tables: one that succeeds, one with a failure, one that is skipped.
 ghost use Rattle.std.specs.Prelude.{◌/◌};
 
-use engine_testkit::Results;
-use engine_testkit::plans::write_report;
-use engine_testkit::record::{ByteTarget, write_record};
+use engine_testkit::{Engine, Expect, Failure, execute};
 use example_engine::{Case, CaseTable, Function};
 use std::alloc::Global;
+use std::sync::Wait;
+use std::thread::Threads;
 
 // Of unsigned numbers, so that the rest is lost.
 pub(crate) struct Halves;
@@ -44,30 +44,26 @@ const WRONG: [Case; 2] = [
     },
 ];
 
-// The three tables.
-pub(crate) fn tables() -> [CaseTable<'static>; 3] {
-    [
-        CaseTable {
-            name: "right",
-            cases: &RIGHT,
-            disabled: None,
-        },
-        CaseTable {
-            name: "wrong",
-            cases: &WRONG,
-            disabled: None,
-        },
-        CaseTable {
-            name: "later",
-            cases: &RIGHT,
-            disabled: Some("not yet"),
-        },
-    ]
-}
+pub(crate) const TABLES: [CaseTable<'static>; 3] = [
+    CaseTable {
+        name: "right",
+        cases: &RIGHT,
+        disabled: None,
+    },
+    CaseTable {
+        name: "wrong",
+        cases: &WRONG,
+        disabled: None,
+    },
+    CaseTable {
+        name: "later",
+        cases: &RIGHT,
+        disabled: Some("not yet"),
+    },
+];
 
-// The report of the run, by any number of workers.
-fn report() -> &'static [u8] {
-    b"skipped 1
+// The report of a run, by any number of workers.
+const REPORT: &str = "skipped 1
 started 8
 finished 8
 aborted 0
@@ -111,17 +107,17 @@ files 2
   dynamic|T|[engine:cases]/[table:wrong]/[case:1]|1
   start
   finish|fail|expected: <4> but was: <3>
-"
-}
+";
 
-// Whether that is the report of the run.
-pub(crate) fn has_report(alloc: Global, results: &Results) -> bool {
-    let mut target = ByteTarget::new(alloc);
-    write_report(alloc, results, &mut target).is_ok() && target.bytes() == report()
-}
-
-// Whether that is the text of the record of the run.
-pub(crate) fn has_record(alloc: Global, results: &Results, record: &[u8]) -> bool {
-    let mut target = ByteTarget::new(alloc);
-    write_record(alloc, results.recorded(), &mut target).is_ok() && target.bytes() == record
+// Expects that each run of an engine of the three tables, by 1 to 15 workers, has that report.
+pub(crate) fn expect_reports<R: Threads + Wait + Sync, E: Engine>(
+    rt: &R,
+    alloc: Global,
+    engine: &E,
+) -> Result<(), Failure> {
+    for workers in 1..=15usize {
+        let results = execute(rt, alloc, engine, workers, 16)?;
+        Expect::of(alloc, results.recorded()).report(REPORT)?;
+    }
+    Ok(())
 }

@@ -12,4 +12,4 @@ mod evens;
 #[cfg(test)]
 mod halves;
 #[cfg(test)]
-mod questions;
+mod records;

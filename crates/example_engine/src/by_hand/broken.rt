@@ -2,6 +2,9 @@
 //!
 //! Its suite has two tests, which declare one lock: the first publishes an entry and succeeds, and
 //! then the second fails.
+use self::Step::{
+    FailSecond, FinishSuite, RunFirst, RunFirstWithoutEntry, RunSecond, StartSecond, SucceedSecond,
+};
 use engine_testkit::{
     DType, Emitter, LockMode, Need, TableFault, UnitContext, UnitEngine, UnitFault, UnitTable,
     Units,
@@ -36,12 +39,43 @@ const FIRST: u32 = 2;
 
 const SECOND: u32 = 3;
 
-fn run_first<C: UnitContext>(events: &mut Emitter<C>) -> Result<(), UnitFault> {
+// What the suite does next.
+#[derive(Clone, Copy)]
+enum Step {
+    RunFirst,
+    RunFirstWithoutEntry,
+    RunSecond,
+    StartSecond,
+    FailSecond,
+    SucceedSecond,
+    FinishSuite,
+}
+
+// What the suite of an engine with this defect does.
+fn steps_of(defect: Option<Defect>) -> &'static [Step] {
+    match defect {
+        None => &[RunFirst, RunSecond, FinishSuite],
+        Some(Defect::FinishedTwice) => &[RunFirst, RunSecond, FailSecond, FinishSuite],
+        Some(Defect::StartedTooLate) => &[RunFirst, FinishSuite, RunSecond],
+        Some(Defect::TestForgotten) => &[RunFirst, FinishSuite],
+        Some(Defect::LockForgotten) => &[StartSecond, RunFirst, FailSecond, FinishSuite],
+        Some(Defect::WrongOutcome) => &[RunFirst, StartSecond, SucceedSecond, FinishSuite],
+        Some(Defect::FinishLost) => &[RunFirst, StartSecond, FinishSuite],
+        Some(Defect::OrderSwapped) => &[RunSecond, RunFirst, FinishSuite],
+        Some(Defect::EntryMissing) => &[RunFirstWithoutEntry, RunSecond, FinishSuite],
+    }
+}
+
+// Runs the first test.
+fn run_first<C: UnitContext>(events: &mut Emitter<C>, has_entry: bool) -> Result<(), UnitFault> {
     events.start(FIRST)?;
-    events.report(FIRST, "rows", "2")?;
+    if has_entry {
+        events.report(FIRST, "rows", "2")?;
+    }
     events.succeed(FIRST)
 }
 
+// Runs the second test.
 fn run_second<C: UnitContext>(events: &mut Emitter<C>) -> Result<(), UnitFault> {
     events.start(SECOND)?;
     events.fail(SECOND, "boom")
@@ -50,53 +84,24 @@ fn run_second<C: UnitContext>(events: &mut Emitter<C>) -> Result<(), UnitFault> 
 /// The unit of the suite.
 #[derive(Drop)]
 pub struct BrokenUnits {
-    defect: Option<Defect>,
+    steps: &'static [Step],
 }
 
 impl Units for BrokenUnits {
     fn run<C: UnitContext>(&self, _unit: u32, events: &mut Emitter<C>) -> Result<(), UnitFault> {
         events.start(SUITE)?;
-        match self.defect {
-            None => {
-                run_first(events)?;
-                run_second(events)?;
-            }
-            Some(Defect::FinishedTwice) => {
-                run_first(events)?;
-                run_second(events)?;
-                events.fail(SECOND, "boom")?;
-            }
-            Some(Defect::StartedTooLate) => {
-                run_first(events)?;
-                events.succeed(SUITE)?;
-                return run_second(events);
-            }
-            Some(Defect::TestForgotten) => run_first(events)?,
-            Some(Defect::LockForgotten) => {
-                events.start(SECOND)?;
-                run_first(events)?;
-                events.fail(SECOND, "boom")?;
-            }
-            Some(Defect::WrongOutcome) => {
-                run_first(events)?;
-                events.start(SECOND)?;
-                events.succeed(SECOND)?;
-            }
-            Some(Defect::FinishLost) => {
-                run_first(events)?;
-                events.start(SECOND)?;
-            }
-            Some(Defect::OrderSwapped) => {
-                run_second(events)?;
-                run_first(events)?;
-            }
-            Some(Defect::EntryMissing) => {
-                events.start(FIRST)?;
-                events.succeed(FIRST)?;
-                run_second(events)?;
-            }
+        for step in self.steps {
+            match *step {
+                RunFirst => run_first(events, true),
+                RunFirstWithoutEntry => run_first(events, false),
+                RunSecond => run_second(events),
+                StartSecond => events.start(SECOND),
+                FailSecond => events.fail(SECOND, "boom"),
+                SucceedSecond => events.succeed(SECOND),
+                FinishSuite => events.succeed(SUITE),
+            }?;
         }
-        events.succeed(SUITE)
+        Ok(())
     }
 }
 
@@ -114,5 +119,6 @@ pub fn broken_engine(
         locked.map_err(|_| TableFault::Memory)?;
     }
     table.add_unit(Need::none())?;
-    Ok(UnitEngine::new(alloc, table, BrokenUnits { defect })?)
+    let steps = steps_of(defect);
+    Ok(UnitEngine::new(alloc, table, BrokenUnits { steps })?)
 }

@@ -79,6 +79,18 @@ but its child [engine:broken]/[suite:all]/[test:second] \"second\", which starte
     ),
 ];
 
+// Expects this of a record.
+fn expect_of(expect: Expect<'_>, expectation: Expectation) -> Result<(), Failure> {
+    match expectation {
+        Expectation::Lifecycle => expect.lifecycle(),
+        Expectation::Locks => expect.locks(),
+        Expectation::Stats(words) => expect.pick(Selection::Tests).stats(words),
+        Expectation::InOrder(first, second) => expect.in_order(&[first, second]),
+        Expectation::Loosely(condition) => expect.loosely(&[condition]),
+    }?;
+    Ok(())
+}
+
 // How an expectation of a run fails, or no text where it is met.
 fn failure<R: Threads + Wait + Sync>(
     rt: &R,
@@ -87,16 +99,8 @@ fn failure<R: Threads + Wait + Sync>(
     expectation: Expectation,
 ) -> Result<String, Failure> {
     let results = execute(rt, alloc, &broken_engine(alloc, defect)?, 1, 16)?;
-    let expect = Expect::of(alloc, results.recorded());
-    let answer = match expectation {
-        Expectation::Lifecycle => expect.lifecycle(),
-        Expectation::Locks => expect.locks(),
-        Expectation::Stats(words) => expect.pick(Selection::Tests).stats(words),
-        Expectation::InOrder(first, second) => expect.in_order(&[first, second]),
-        Expectation::Loosely(condition) => expect.loosely(&[condition]),
-    };
-    match answer {
-        Ok(_) => Ok(String::new(alloc)),
+    match expect_of(Expect::of(alloc, results.recorded()), expectation) {
+        Ok(()) => Ok(String::new(alloc)),
         Err(failure) => Ok(format!(in alloc; "{failure:?}")?),
     }
 }
@@ -106,15 +110,8 @@ fn each_defect_is_found(rt: HostRuntime) -> Result<(), Failure> {
     for (defect, expectation, begin) in ROWS {
         let found = failure(&rt, rt.alloc(), Some(defect), expectation)?;
         assert!(rt; found.as_str().starts_with(begin), "{defect:?}: {found}");
-    }
-    Ok(())
-}
-
-#[test]
-fn an_engine_without_defect_has_what_is_expected(rt: HostRuntime) -> Result<(), Failure> {
-    for (defect, expectation, _) in ROWS {
-        let found = failure(&rt, rt.alloc(), None, expectation)?;
-        assert!(rt; found.is_empty(), "{defect:?}: {found}");
+        let of_none = failure(&rt, rt.alloc(), None, expectation)?;
+        assert!(rt; of_none.is_empty(), "without {defect:?}: {of_none}");
     }
     Ok(())
 }

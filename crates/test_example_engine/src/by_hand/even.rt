@@ -1,41 +1,19 @@
-//! An engine of one test by hand, asked about an even and an odd number.
-use crate::halves::has_record;
-use engine_testkit::execute;
+//! The engine of one test by hand, of an even and of an odd number.
+use engine_testkit::{Expect, Failure, execute};
 use example_engine::by_hand::EvenEngine;
-use std::alloc::Global;
-use std::sync::Wait;
-use std::thread::Threads;
-
-// Whether a run of the engine has this record.
-fn is_recorded<R: Threads + Wait + Sync>(
-    rt: &R,
-    alloc: Global,
-    number: u64,
-    record: &[u8],
-) -> Option<bool> {
-    let engine = EvenEngine::new(alloc, number).ok()?;
-    let results = execute(rt, alloc, &engine, 1, 16).ok()?;
-    Some(has_record(alloc, &results, record))
-}
 
 #[test]
-fn even_numbers_succeed(rt: HostRuntime) {
-    let even = b"testkit-record|2
-N|C|[engine:even]|even
-N|T|[engine:even]/[test:number]|number
-E|0|0|0|start
-E|1|1|0|start
-E|1|1|0|finish|ok
-E|0|0|0|finish|ok
-";
-    assert!(rt; is_recorded(&rt, rt.alloc(), 4, even) == Some(true));
-    let odd = b"testkit-record|2
-N|C|[engine:even]|even
-N|T|[engine:even]/[test:number]|number
-E|0|0|0|start
-E|1|1|0|start
-E|1|1|0|finish|fail
-E|0|0|0|finish|ok
-";
-    assert!(rt; is_recorded(&rt, rt.alloc(), 5, odd) == Some(true));
+fn even_numbers_succeed(rt: HostRuntime) -> Result<(), Failure> {
+    let alloc = rt.alloc();
+    for (number, ending) in [(4, "succeeded"), (5, "failed")] {
+        let engine = EvenEngine::new(alloc, number)?;
+        let results = execute(&rt, alloc, &engine, 1, 16)?;
+        Expect::of(alloc, results.recorded()).exactly(&[
+            "all(engine,started)",
+            "all(started,id([engine:even]/[test:number]),name(number))",
+            ending,
+            "all(engine,succeeded)",
+        ])?;
+    }
+    Ok(())
 }
