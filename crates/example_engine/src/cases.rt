@@ -1,8 +1,6 @@
 //! Cases of a function, in tables.
 ghost use Rattle.std.specs.Prelude.{◌≡◌, ℕ};
 
-use engine_testkit::Need;
-
 /// The function whose cases are run.
 pub trait Function {
     ghost value: { Self → ℕ → ℕ };
