@@ -11,7 +11,7 @@ use Rattle.tk_engine_execute.proofs.runs.run.Goals as goal
 
 pub run_workers-collected-requires-clause-ready : goal.run_workers-collected-requires-clause-ready
 run_workers-collected-requires-clause-ready g c κs within =
-    let start = c.in-Ok.ensures.start in
+    let start = c.in-Ok.ensures in
     let many = start.many in
     let room = start.room in record {
       unstarted = start.unstarted;
@@ -21,23 +21,23 @@ run_workers-collected-requires-clause-ready g c κs within =
     }
 
 pub finish-requires-clause-table : goal.finish-requires-clause-table
-finish-requires-clause-table g c κs within = c.run_workers-collected.ensures.took_more.table ∙ c.in-Ok.ensures.start.collector.table_is
+finish-requires-clause-table g c κs within = c.run_workers-collected.ensures.took_more.table ∙ c.in-Ok.ensures.collector.table_is
 
 pub finish-requires-clause-recorded : goal.finish-requires-clause-recorded
-finish-requires-clause-recorded g c κs within = has_recorded _ _ _ c.in-Ok.ensures.start.collector c.run_workers-collected.ensures.took_more
+finish-requires-clause-recorded g c κs within = has_recorded _ _ _ c.in-Ok.ensures.collector c.run_workers-collected.ensures.took_more
 
 pub finish-requires-clause-collected : goal.finish-requires-clause-collected
 finish-requires-clause-collected g c κs within =
-    let start = c.in-Ok.ensures.start in
+    let start = c.in-Ok.ensures in
     is_collected (run_units c.in-Ok.start.claim (g.E.Engine.may c.args.engine.now) (g.E.Engine.units c.args.engine.now) (g.E.Engine.fails c.args.engine.now)) c.args.workers _ _ _ _ c.requires.workers.some refl start.collector start.many c.run_workers-collected.ensures
 
 pub returns-in-Err-clause-failed : goal.returns-in-Err-clause-failed
 returns-in-Err-clause-failed g c =
     let made = c.without_record.ensures in
-    let memory : c.without_record.result.fault ≡ Memory = made.fault ∙ c.in-Err.ensures.memory in
+    let memory : c.without_record.result.fault ≡ Memory = made.fault in
     nothing_recorded _ c.args.workers c.without_record.result made.recorded (λ unit why is. let clash : Memory ≡ Engine unit why = sym memory ∙ is in cc)
 
 pub returns-clause-of_capacity : goal.returns-clause-of_capacity
 returns-clause-of_capacity g c =
-    let asked = c.in-Ok.ensures.start.collector.of_capacity in
+    let asked = c.in-Ok.ensures.collector.of_capacity in
     IfOk-weaker c.finish.result _ (λ (r : RunResults). capacity_of r.closed.session ≡ c.args.capacity) (λ r same. ap (λ s. capacity_of s) (same ∙ c.run_workers-collected.ensures.took_more.session) ∙ asked) c.finish.ensures.session
