@@ -1,6 +1,8 @@
 -- How judging conditions follows from judging an answer.
-use Rattle.std.proofs.Common.{◌≡◌, ◌++◌, ◌∷◌, [], ℕ, suc, Bool, List, Ok, Err, Some, refl, sym, ◌∙◌, subst, ap, length}
+use Rattle.std.proofs.Common.{◌≡◌, ◌⊎◌, inl, inr, ◌++◌, ◌∷◌, [], ℕ, suc, Bool, List, Ok, Err, Some, refl, sym, ◌∙◌, subst, ap, length}
 use Rattle.std.specs.Prelude.{Result, IfErr}
+use Rattle.tk_query_conditions.specs.Cond.{Any, Nothing}
+use Rattle.tk_query_conditions.specs.CondOf.{cond_of}
 use Rattle.tk_query_conditions.specs.declared.conditions.Condition.{Condition}
 use Rattle.tk_explanations.specs.declared.faults.ExplainFault.{ExplainFault}
 use Rattle.tk_explanations.specs.Explained.{IsExplained}
@@ -39,6 +41,13 @@ judged e Answers is_yes text (Err (failures.Condition fault shown)) a h = absurd
 judged e Answers is_yes text (Err (failures.Word at shown)) a h = absurd h
 judged e Answers is_yes text (Err (failures.Run shown)) a h = absurd h
 judged e Answers is_yes text (Err (failures.Fault fault)) a h = tt
+
+-- the conditions that texts spell, of writers and of readers
+pub are_holders : (texts : List (List ℕ)) (cs : List Condition) (w r : Condition)
+    → AreConditions texts cs → (cs ≡ w ∷ r ∷ []) ⊎ ((cs ≡ w ∷ []) × (cond_of r ≡ Any Nothing))
+    → AreHolders texts w r
+are_holders texts cs w r h (inl two) = inl (subst (AreConditions texts) two h)
+are_holders texts cs w r h (inr one) = inr (subst (AreConditions texts) one.0 h, one.1)
 
 -- what is judged of two conditions is judged of the texts that they spell
 pub judged_holders : (e : Expect) (texts : List (List ℕ)) (writers readers : Condition)

@@ -1,9 +1,5 @@
 //! What is said of a text that spells no condition, and of a word that expects nothing.
 
-ghost use Rattle.std.specs.Prelude.{IfErr};
-ghost use Rattle.tk_expectations.specs.Failures.{IsFault};
-
-use crate::failures::Failure;
 use std::alloc::{AllocError, Global};
 use testkit_questions::ConditionsFault;
 use tk_query_conditions::{CondFault, read_condition};
@@ -41,27 +37,34 @@ const MARKS: [&str; 3] = ["(", ",", ")"];
 /// A character that stands in texts alone.
 const OF_TEXTS: &str = "~";
 
-// Tells whether a condition's text may begin with one text and then another.
-fn may_follow(alloc: Global, start: &str, next: &str) -> Result<bool, Failure>
-    ensures { IfErr result IsFault }
-{
-    let text = format!(in alloc; "{start}{next}")?;
-    match read_condition(alloc, text.as_str()) {
-        Ok(_) => Ok(true),
-        Err(CondFault::BadAtom(at)) => Ok(at >= text.len()),
-        Err(fault) => Err(Failure::from(fault)),
+// Finds the place at which a text is no condition, where it is none.
+fn bad_place(alloc: Global, text: &str) -> Result<Option<usize>, CondFault> {
+    match read_condition(alloc, text) {
+        Ok(condition) => {
+            drop(condition);
+            Ok(None)
+        }
+        Err(CondFault::BadAtom(at)) => Ok(Some(at)),
+        Err(fault) => Err(fault),
     }
 }
 
-// Tells whether a text spells a condition.
-fn is_condition(alloc: Global, text: &str) -> bool {
-    read_condition(alloc, text).is_ok()
+// Tells whether a condition's text may begin with one text and then another.
+fn may_follow(alloc: Global, start: &str, next: &str) -> Result<bool, CondFault> {
+    let text = format!(in alloc; "{start}{next}")?;
+    match bad_place(alloc, text.as_str())? {
+        None => Ok(true),
+        Some(at) => Ok(at >= text.len()),
+    }
 }
 
 // Adds each of the words that goes on from the end of the start.
-fn add_words(names: &mut String, alloc: Global, start: &str, words: &[&str]) -> Result<(), Failure>
-    ensures { IfErr result IsFault }
-{
+fn add_words(
+    names: &mut String,
+    alloc: Global,
+    start: &str,
+    words: &[&str],
+) -> Result<(), CondFault> {
     let head = start.trim_end_matches(|c: char| c.is_ascii_lowercase());
     let stem = start.strip_prefix(head).unwrap_or("");
     for word in words {
@@ -73,9 +76,7 @@ fn add_words(names: &mut String, alloc: Global, start: &str, words: &[&str]) -> 
 }
 
 // Names what may stand after the start of a condition's text.
-fn followers(alloc: Global, start: &str) -> Result<String, Failure>
-    ensures { IfErr result IsFault }
-{
+fn followers(alloc: Global, start: &str) -> Result<String, CondFault> {
     let mut names = String::new(alloc);
     if may_follow(alloc, start, OF_TEXTS)? {
         names.push_str(" a character of a text, where ( ) , % are %28 %29 %2C %25;")?;
@@ -88,7 +89,7 @@ fn followers(alloc: Global, start: &str) -> Result<String, Failure>
             write!(&mut names, " {mark}")?;
         }
     }
-    if is_condition(alloc, start) {
+    if bad_place(alloc, start)?.is_none() {
         names.push_str(" the end of the text")?;
     }
     if names.is_empty() {
@@ -98,9 +99,7 @@ fn followers(alloc: Global, start: &str) -> Result<String, Failure>
 }
 
 // Says what may stand at a place of a text.
-fn at_place(alloc: Global, shown: &str, text: &str, at: usize) -> Result<String, Failure>
-    ensures { IfErr result IsFault }
-{
+fn at_place(alloc: Global, shown: &str, text: &str, at: usize) -> Result<String, CondFault> {
     let start = text.get(..at).unwrap_or(text);
     let names = followers(alloc, start)?;
     let said = format!(in alloc; "{shown}: {text}\nafter '{start}' may stand:{names}\n")?;
@@ -112,9 +111,7 @@ pub(crate) fn bad_condition(
     alloc: Global,
     fault: ConditionsFault,
     texts: &[&str],
-) -> Result<String, Failure>
-    ensures { IfErr result IsFault }
-{
+) -> Result<String, CondFault> {
     let shown = format!(in alloc; "{fault}")?;
     let ConditionsFault::Condition(number, why) = fault else {
         return Ok(shown);

@@ -40,6 +40,18 @@ fn keys_of(alloc: Global, record: &Record, explanation: &str) -> Result<Vec<u32>
     Ok(keys)
 }
 
+// Lists the events of each of the keys.
+fn events_of_keys(alloc: Global, record: &Record, keys: &[u32]) -> Result<String, Failure>
+    ensures { IfErr result IsFault }
+{
+    let events = Events::all(alloc, record)?;
+    let mut text = String::new(alloc);
+    for key in keys {
+        add_list(&mut text, alloc, &events.by_key(alloc, *key)?)?;
+    }
+    Ok(text)
+}
+
 /// Lists the events of each descriptor of whose events an explanation has rows.
 pub(crate) fn events_of_named(
     alloc: Global,
@@ -49,11 +61,7 @@ pub(crate) fn events_of_named(
     ensures { IfErr result IsFault }
 {
     let keys = keys_of(alloc, record, str::from_utf8(explanation)?)?;
-    let events = Events::all(alloc, record)?;
-    let mut text = String::new(alloc);
-    for key in &keys {
-        add_list(&mut text, alloc, &events.by_key(alloc, *key)?)?;
-    }
+    let text = events_of_keys(alloc, record, &keys)?;
     if text.is_empty() {
         return Ok(text);
     }

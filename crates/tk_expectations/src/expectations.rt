@@ -1,5 +1,5 @@
 //! What a test expects of a record.
-ghost use Rattle.std.specs.Prelude.{◌≡◌, ◌∷◌, ℕ, List, [], length, map, string_bytes, IfErr, IfOk};
+ghost use Rattle.std.specs.Prelude.{◌≡◌, ◌∷◌, ◌<◌, ◌≤◌, ◌⊎◌, ℕ, List, [], length, map, string_bytes, IfErr, IfOk};
 ghost use Rattle.tk_query_conditions.specs.Cond.{Any, Nothing};
 ghost use Rattle.tk_query_conditions.specs.CondOf.{cond_of};
 ghost use Rattle.tk_explanations.specs.Collisions.{ExplainsExclusive};
@@ -42,36 +42,21 @@ fn conditions_of(alloc: Global, texts: &[&str]) -> Result<Vec<Condition>, Failur
     }
 }
 
-// Takes the condition of one text.
-fn only(conditions: Vec<Condition>) -> Condition
-    requires { length conditions.items ≡ 1 }
-    ensures { conditions.items ≡ result ∷ [] }
-{
-    let mut conditions = conditions;
-    match conditions.pop() {
-        Some(condition) => condition,
-        None => unreachable!(),
-    }
-}
-
-// Takes the conditions of two texts.
-fn both(conditions: Vec<Condition>) -> (Condition, Condition)
-    requires { length conditions.items ≡ 2 }
-    ensures { conditions.items ≡ result.0 ∷ result.1 ∷ [] }
+// Takes the conditions of writers and of readers. Where there is one condition, that of readers
+// holds of no event.
+fn holders(alloc: Global, conditions: Vec<Condition>) -> (Condition, Condition)
+    requires some { 0 < length conditions.items }
+    requires few { length conditions.items ≤ 2 }
+    ensures { (conditions.items ≡ result.0 ∷ result.1 ∷ [])
+        ⊎ ((conditions.items ≡ result.0 ∷ []) × (cond_of result.1 ≡ Any Nothing)) }
 {
     let mut first = conditions;
     let last = first.pop();
     match (first.pop(), last) {
         (Some(writers), Some(readers)) => (writers, readers),
-        (None, Some(_)) | (_, None) => unreachable!(),
+        (None, Some(writers)) => (writers, Condition::Any(Vec::new(alloc))),
+        (_, None) => unreachable!(),
     }
-}
-
-// The condition of readers where there are none: it holds of no event.
-fn nobody(alloc: Global) -> Condition
-    ensures { cond_of result ≡ Any Nothing }
-{
-    Condition::Any(Vec::new(alloc))
 }
 
 // Splits a text at its blanks.
@@ -198,6 +183,23 @@ impl<'r> Expect<'r> {
         self.judge(is_yes, explanation)
     }
 
+    // Expects that the executions of those kept away from each other whose conditions the texts
+    // spell: one of writers, or one of writers and one of readers.
+    fn apart_as(self, texts: &[&str]) -> Result<Expect<'r>, Failure>
+        requires some { 0 < length texts.now }
+        requires few { length texts.now ≤ 2 }
+        ensures judged { IsJudged self.entry (OfHolders (texts_of texts.now)
+            (ExplainsExclusive (all_of self.entry.«record».now))) result }
+        ensures refused { IfErr result (RefusesConditions (texts_of texts.now)) }
+    {
+        let conditions = conditions_of(self.alloc, texts)?;
+        let (writers, readers) = holders(self.alloc, conditions);
+        let judged = self.apart(&writers, &readers);
+        drop(writers);
+        drop(readers);
+        judged
+    }
+
     /// Expects that the executions of which a condition holds kept away from each other, and that
     /// there are two such executions. The question `exclusive`.
     pub fn exclusive(self, writers: &str) -> Result<Expect<'r>, Failure>
@@ -205,8 +207,7 @@ impl<'r> Expect<'r> {
             (ExplainsExclusive (all_of self.entry.«record».now))) result }
         ensures refused { IfErr result (RefusesConditions (writers.now ∷ [])) }
     {
-        let writers = only(conditions_of(self.alloc, &[writers])?);
-        self.apart(&writers, &nobody(self.alloc))
+        self.apart_as(&[writers])
     }
 
     /// Expects that the executions of writers kept away from each other and from those of readers,
@@ -216,8 +217,7 @@ impl<'r> Expect<'r> {
             (ExplainsExclusive (all_of self.entry.«record».now))) result }
         ensures refused { IfErr result (RefusesConditions (writers.now ∷ readers.now ∷ [])) }
     {
-        let (writers, readers) = both(conditions_of(self.alloc, &[writers, readers])?);
-        self.apart(&writers, &readers)
+        self.apart_as(&[writers, readers])
     }
 
     /// Expects numbers of the statistics of the events, by words NAME=N with a blank between them,
