@@ -2,7 +2,7 @@
 use crate::shown_plans::shown;
 use std::alloc::{AllocError, Global};
 use tk_events::Outcome;
-use tk_ids::{DType, LockMode, UniqueId};
+use tk_ids::{LockMode, UniqueId};
 use tk_plan::Plan;
 use tk_plan_code::{ExecutionMode, PlanNode};
 use tk_plan_json_members::PlanFault;
