@@ -5,48 +5,37 @@ use std::alloc::Global;
 use std::sync::Wait;
 use std::thread::Threads;
 
-// What is expected of a run.
-#[derive(Clone, Copy)]
-enum Expectation {
-    Lifecycle,
-    Locks,
-    Stats(&'static str),
-    InOrder(&'static str, &'static str),
-    Loosely(&'static str),
-}
+const STARTS: [&str; 2] = ["all(started,name(first))", "all(started,name(second))"];
 
-// Each defect, the expectation that is not met, and how its failure begins.
-const ROWS: [(Defect, Expectation, &str); 8] = [
+const ENTRY: [&str; 1] = ["all(name(first),entry(rows,2))"];
+
+// How the expectation fails that finds each defect: how its text begins.
+const FAILURES: [(Defect, &str); 8] = [
     (
         Defect::FinishedTwice,
-        Expectation::Lifecycle,
         "no 7 not-running
 [engine:broken]/[suite:all]/[test:second] \"second\" finished at 7, but finished at 6 already",
     ),
     (
         Defect::StartedTooLate,
-        Expectation::Lifecycle,
         "no 6 parent-not-running
 [engine:broken]/[suite:all]/[test:second] \"second\" started at 6, \
 but its parent [engine:broken]/[suite:all] \"all\" finished at 5",
     ),
     (
         Defect::TestForgotten,
-        Expectation::Lifecycle,
         "no start 3
 [engine:broken]/[suite:all]/[test:second] \"second\" neither started nor was skipped, \
 but its parent [engine:broken]/[suite:all] \"all\" succeeded at 5",
     ),
     (
         Defect::LockForgotten,
-        Expectation::Locks,
         "no 2 3 db
 [engine:broken]/[suite:all]/[test:second] \"second\" (2 to 6) \
 and [engine:broken]/[suite:all]/[test:first] \"first\" (3 to 5) overlap, over db",
     ),
     (
         Defect::WrongOutcome,
-        Expectation::Stats("failed=1"),
         "skipped 0\nstarted 2\nfinished 2\naborted 0\nsucceeded 2\nfailed 0\nreporting 1\n\
 dynamic 0\nfiles 0
 mismatch failed expected 1 actual 0
@@ -56,14 +45,12 @@ not counted as failed:
     ),
     (
         Defect::FinishLost,
-        Expectation::Lifecycle,
         "no 6 child-running
 [engine:broken]/[suite:all] \"all\" finished at 6, \
 but its child [engine:broken]/[suite:all]/[test:second] \"second\", which started at 5, still ran",
     ),
     (
         Defect::OrderSwapped,
-        Expectation::InOrder("all(started,name(first))", "all(started,name(second))"),
         "no 1
 0 all(started,name(first))
     4: E|1|2|0|start   [engine:broken]/[suite:all]/[test:first] \"first\"
@@ -72,34 +59,42 @@ but its child [engine:broken]/[suite:all]/[test:second] \"second\", which starte
     ),
     (
         Defect::EntryMissing,
-        Expectation::Loosely("all(name(first),entry(rows,2))"),
         "no 0
 0 all(name(first),entry(rows,2))
     2: E|1|2|0|start   [engine:broken]/[suite:all]/[test:first] \"first\"   does not hold: entry(rows,2)",
     ),
 ];
 
-// Expects this of a record.
-fn expect_of(expect: Expect<'_>, expectation: Expectation) -> Result<(), Failure> {
-    match expectation {
-        Expectation::Lifecycle => expect.lifecycle(),
-        Expectation::Locks => expect.locks(),
-        Expectation::Stats(words) => expect.pick(Selection::Tests).stats(words),
-        Expectation::InOrder(first, second) => expect.in_order(&[first, second]),
-        Expectation::Loosely(condition) => expect.loosely(&[condition]),
-    }?;
+// Expects that each test runs as it should.
+fn expect_runs(expect: Expect<'_>) -> Result<(), Failure> {
+    expect.lifecycle()?.locks()?;
     Ok(())
 }
 
-// How an expectation of a run fails, or no text where it is met.
+// Expects the events of both tests, in their order.
+fn expect_events(expect: Expect<'_>) -> Result<(), Failure> {
+    expect
+        .in_order(&STARTS)?
+        .loosely(&ENTRY)?
+        .pick(Selection::Tests)
+        .stats("failed=1")?;
+    Ok(())
+}
+
+// Expects what holds of a run without a defect.
+fn expect_no_defect(expect: Expect<'_>) -> Result<(), Failure> {
+    expect_runs(expect)?;
+    expect_events(expect)
+}
+
+// How a run of the engine with a defect fails what is expected.
 fn failure<R: Threads + Wait + Sync>(
     rt: &R,
     alloc: Global,
-    defect: Option<Defect>,
-    expectation: Expectation,
+    defect: Defect,
 ) -> Result<String, Failure> {
-    let results = execute(rt, alloc, &broken_engine(alloc, defect)?, 1, 16)?;
-    match expect_of(Expect::of(alloc, results.recorded()), expectation) {
+    let results = execute(rt, alloc, &broken_engine(alloc, Some(defect))?, 1, 16)?;
+    match expect_no_defect(Expect::of(alloc, results.recorded())) {
         Ok(()) => Ok(String::new(alloc)),
         Err(failure) => Ok(format!(in alloc; "{failure:?}")?),
     }
@@ -107,11 +102,16 @@ fn failure<R: Threads + Wait + Sync>(
 
 #[test]
 fn each_defect_is_found(rt: HostRuntime) -> Result<(), Failure> {
-    for (defect, expectation, begin) in ROWS {
-        let found = failure(&rt, rt.alloc(), Some(defect), expectation)?;
+    for (defect, begin) in FAILURES {
+        let found = failure(&rt, rt.alloc(), defect)?;
         assert!(rt; found.as_str().starts_with(begin), "{defect:?}: {found}");
-        let of_none = failure(&rt, rt.alloc(), None, expectation)?;
-        assert!(rt; of_none.is_empty(), "without {defect:?}: {of_none}");
     }
     Ok(())
+}
+
+#[test]
+fn an_engine_without_defect_has_what_is_expected(rt: HostRuntime) -> Result<(), Failure> {
+    let alloc = rt.alloc();
+    let results = execute(&rt, alloc, &broken_engine(alloc, None)?, 1, 16)?;
+    expect_no_defect(Expect::of(alloc, results.recorded()))
 }
