@@ -2,20 +2,22 @@
 use std::alloc::Global;
 use std::sync::Wait;
 use std::thread::Threads;
-use tk_engine_execute::{Engine, Results, RunFault, UnitFault, execute};
+use test_support::is_written_as;
+use tk_engine_execute::{Engine, Results, UnitFault, execute};
 use tk_engine_hierarchical::{Context, Hierarchical, Reporter, Tests};
 use tk_events::Pairs;
 use tk_ids::Text;
-use tk_plan_code::PlanNode;
-use tk_plan_reading::build_plan;
+use tk_plan_reading::read_plan;
+use tk_query_lifecycle::Lifecycle;
+use tk_record::Statistics;
 
-/// The engine of the plan with this root, and of these tests; none for want of memory.
+/// The engine of the plan of this text, and of these tests; none for want of memory.
 pub(crate) fn engine_of<T: Tests + Drop>(
     alloc: Global,
-    root: &PlanNode<'_>,
+    plan: &[u8],
     tests: T,
 ) -> Option<Hierarchical<T>> {
-    let plan = build_plan(alloc, root).ok()?;
+    let plan = read_plan(alloc, plan).ok()?;
     Hierarchical::new(alloc, plan, tests).ok()
 }
 
@@ -23,19 +25,55 @@ pub(crate) fn engine_of<T: Tests + Drop>(
 pub(crate) fn results_of<R: Threads + Wait + Sync, E: Engine + Drop>(
     rt: &R,
     alloc: Global,
-    engine: E,
+    engine: Option<E>,
     workers: usize,
 ) -> Option<Results> {
-    execute(rt, alloc, &engine, workers, 4).ok()
+    execute(rt, alloc, &engine?, workers, 4).ok()
 }
 
-/// The fault with which a run by one worker ended; none where it didn't fail.
-pub(crate) fn fault_of<R: Threads + Wait + Sync, E: Engine + Drop>(
+/// Whether a run has this record.
+pub(crate) fn is_recorded(alloc: Global, results: Option<Results>, record: &[u8]) -> bool {
+    match &results {
+        Some(results) => is_written_as(alloc, results.recorded(), record),
+        None => false,
+    }
+}
+
+/// The statistics of a run, where it keeps the lifecycle.
+pub(crate) fn statistics_of(alloc: Global, results: Option<Results>) -> Option<Statistics> {
+    let results = results?;
+    if results.lifecycle(alloc) != Ok(Lifecycle::Kept) {
+        return None;
+    }
+    Some(results.all_events(alloc).ok()?.statistics())
+}
+
+// What is printed of the fault with which a run by one worker ends, or "done".
+fn printed_ending<R: Threads + Wait + Sync, E: Engine>(
     rt: &R,
     alloc: Global,
-    engine: E,
-) -> Option<RunFault> {
-    execute(rt, alloc, &engine, 1, 64).err()
+    engine: &E,
+) -> Option<String> {
+    let ran = execute(rt, alloc, engine, 1, 64);
+    let text = match &ran {
+        Ok(_) => format!(in alloc; "done"),
+        Err(fault) => format!(in alloc; "{fault}"),
+    };
+    drop(ran);
+    text.ok()
+}
+
+/// Whether a run by one worker ends with the fault that is printed so, or is "done".
+pub(crate) fn ends_so<R: Threads + Wait + Sync, E: Engine + Drop>(
+    rt: &R,
+    alloc: Global,
+    engine: Option<E>,
+    ending: &str,
+) -> bool {
+    let Some(engine) = engine else {
+        return false;
+    };
+    matches!(printed_ending(rt, alloc, &engine), Some(text) if text.as_str() == ending)
 }
 
 /// Publishes an entry of these pairs.

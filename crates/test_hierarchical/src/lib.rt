@@ -2,13 +2,13 @@
 #![tactic(auto)]
 
 #[cfg(test)]
+mod alone;
+#[cfg(test)]
 mod bodies;
 #[cfg(test)]
 mod calls;
 #[cfg(test)]
-mod descriptors;
-#[cfg(test)]
-mod dropped_faults;
+mod endings;
 #[cfg(test)]
 mod large_units;
 #[cfg(test)]
@@ -17,7 +17,5 @@ mod limits;
 mod planned;
 #[cfg(test)]
 mod refusals;
-#[cfg(test)]
-mod runs;
 #[cfg(test)]
 mod timed;

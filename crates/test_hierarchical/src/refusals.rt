@@ -1,15 +1,14 @@
 //! Runs of bodies, with ample memory and with any one request for memory refused. What is refused
 //! is asked once more, and then it has to succeed.
-use crate::bodies::{is_recorded, sample_engine};
+use crate::bodies::{sample_engine, sample_record};
+use crate::calls::engine_of;
 use std::alloc::Global;
 use std::sync::Wait;
 use std::thread::Threads;
-use test_support::{Ending, is_done, refused_if};
-use tk_engine_execute::{RunFault, SinkFault, UnitFault, execute};
-use tk_engine_hierarchical::{Context, Hierarchical, Reporter, Tests};
+use test_support::{Ending, is_done, is_written_as, refused_if};
+use tk_engine_execute::{Engine, RunFault, SinkFault, UnitFault, execute};
+use tk_engine_hierarchical::{Context, Reporter, Tests};
 use tk_events::Outcome;
-use tk_plan_code::PlanNode;
-use tk_plan_reading::build_plan;
 use tk_queue_session::RegisterFault;
 
 fn is_unit_refused(fault: &UnitFault) -> bool {
@@ -28,13 +27,19 @@ fn of_fault(fault: &RunFault) -> Ending {
     }
 }
 
-fn run<R: Threads + Wait + Sync>(rt: &R, alloc: Global) -> Ending {
-    let Some(engine) = sample_engine(alloc) else {
+// How a run by one worker ends, which has to have this record.
+fn run<R: Threads + Wait + Sync, E: Engine + Drop>(
+    rt: &R,
+    alloc: Global,
+    engine: Option<E>,
+    record: &[u8],
+) -> Ending {
+    let Some(engine) = engine else {
         return Ending::Refused;
     };
     let ran = execute(rt, alloc, &engine, 1, 4);
     let ending = match &ran {
-        Ok(results) if is_recorded(alloc, results) => Ending::Done,
+        Ok(results) if is_written_as(alloc, results.recorded(), record) => Ending::Done,
         // Memory for the record's text was refused.
         Ok(_) => Ending::Refused,
         Err(fault) => of_fault(fault),
@@ -45,7 +50,8 @@ fn run<R: Threads + Wait + Sync>(rt: &R, alloc: Global) -> Ending {
 
 #[test]
 fn a_run_of_bodies(rt: HostRuntime) {
-    assert!(rt; is_done(|| run(&rt, rt.alloc())));
+    let alloc = rt.alloc();
+    assert!(rt; is_done(|| run(&rt, alloc, sample_engine(alloc), sample_record())));
 }
 
 // A test that asks once more for what was refused: a descriptor that isn't there has no id.
@@ -61,23 +67,27 @@ impl Tests for Insisting {
     }
 }
 
-fn insist<R: Threads + Wait + Sync>(rt: &R, alloc: Global) -> Ending {
-    let Ok(plan) = build_plan(alloc, &PlanNode::test(alloc, ("t", "t"), "t")) else {
-        return Ending::Refused;
-    };
-    let Ok(engine) = Hierarchical::new(alloc, plan, Insisting) else {
-        return Ending::Refused;
-    };
-    let ran = execute(rt, alloc, &engine, 1, 4);
-    let ending = match &ran {
-        Ok(_) => Ending::Done,
-        Err(fault) => of_fault(fault),
-    };
-    drop(ran);
-    ending
+fn insisting_plan() -> &'static [u8] {
+    br#"{"version":2,"root":{"type":"test","segment":["t","t"],"name":"t"}}"#
+}
+
+fn insisting_record() -> &'static [u8] {
+    b"testkit-record|2
+N|T|[t:t]|t
+E|1|0|0|start
+E|1|65536|0|dynamic|T|[t:t]/[d:1]|d
+E|1|65536|0|skip|off
+E|1|0|1|finish|ok
+"
 }
 
 #[test]
 fn what_was_refused_is_asked_for_again(rt: HostRuntime) {
-    assert!(rt; is_done(|| insist(&rt, rt.alloc())));
+    let alloc = rt.alloc();
+    assert!(rt;
+        is_done(|| {
+            let engine = engine_of(alloc, insisting_plan(), Insisting);
+            run(&rt, alloc, engine, insisting_record())
+        })
+    );
 }

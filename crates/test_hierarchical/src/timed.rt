@@ -1,17 +1,15 @@
 //! Engines whose clock gives the stamps.
-use crate::calls::results_of;
-use std::alloc::{AllocError, Global};
+use crate::calls::{is_recorded, results_of};
+use std::alloc::Global;
 use std::sync::Wait;
 use std::sync::atomic::{AtomicU64, Ordering};
 use std::thread;
 use std::thread::Threads;
 use std::time::{Clock, Duration, Instant};
-use test_support::is_written_as;
 use tk_engine_execute::UnitFault;
 use tk_engine_hierarchical::{Body, Context, EventClock, Hierarchical, Reporter, Tests};
 use tk_events::Outcome;
-use tk_plan_code::PlanNode;
-use tk_plan_reading::build_plan;
+use tk_plan_reading::read_plan;
 
 // A clock that counts its readings: 100, 110, 120 and so on.
 #[derive(Drop)]
@@ -52,11 +50,11 @@ impl Tests for Timed {
 }
 
 // A root with two tests, and one that is skipped.
-fn root(alloc: Global) -> Result<PlanNode<'static>, AllocError> {
-    PlanNode::container(alloc, ("engine", "e"), "e")
-        .child(PlanNode::test(alloc, ("t", "1"), "one"))?
-        .child(PlanNode::test(alloc, ("t", "2"), "two"))?
-        .child(PlanNode::test(alloc, ("t", "3"), "three").skip("later"))
+fn plan() -> &'static [u8] {
+    br#"{"version":2,"root":{"type":"container","segment":["engine","e"],"name":"e","children":[
+{"type":"test","segment":["t","1"],"name":"one"},
+{"type":"test","segment":["t","2"],"name":"two"},
+{"type":"test","segment":["t","3"],"name":"three","skip":"later"}]}}"#
 }
 
 // The engine of these tests with this clock; none for want of memory.
@@ -65,8 +63,7 @@ fn engine_of<T: Tests + Drop, C: EventClock + Drop>(
     tests: T,
     clock: C,
 ) -> Option<Hierarchical<T, C>> {
-    let plan = build_plan(alloc, &root(alloc).ok()?).ok()?;
-    Hierarchical::timed(alloc, plan, tests, clock).ok()
+    Hierarchical::timed(alloc, read_plan(alloc, plan()).ok()?, tests, clock).ok()
 }
 
 // Each event has the next reading, but for those at the second test's own stamp.
@@ -100,16 +97,11 @@ E|1|0|210|finish|ok
 "
 }
 
-fn has_record<R: Threads + Wait + Sync>(rt: &R, alloc: Global) -> Option<bool> {
-    let reading = AtomicU64::new(100);
-    let engine = engine_of(alloc, Timed, Counting { reading })?;
-    let results = results_of(rt, alloc, engine, 1)?;
-    Some(is_written_as(alloc, results.recorded(), record()))
-}
-
 #[test]
 fn each_event_has_what_the_clock_reads(rt: HostRuntime) {
-    assert!(rt; has_record(&rt, rt.alloc()) == Some(true));
+    let (alloc, reading) = (rt.alloc(), AtomicU64::new(100));
+    let results = results_of(&rt, alloc, engine_of(alloc, Timed, Counting { reading }), 1);
+    assert!(rt; is_recorded(alloc, results, record()));
 }
 
 // The microseconds since it was made.
@@ -144,7 +136,7 @@ impl<R: Clock + Sync> Tests for Sleeping<'_, R> {
 // How long a run by one worker took from its first event to its last, by its stamps.
 fn duration<R: Threads + Wait + Clock + Sync>(rt: &R, alloc: Global) -> Option<u64> {
     let start = Instant::now(rt).ok()?;
-    let engine = engine_of(alloc, Sleeping { rt }, Stopwatch { rt, start })?;
+    let engine = engine_of(alloc, Sleeping { rt }, Stopwatch { rt, start });
     let results = results_of(rt, alloc, engine, 1)?;
     let record = results.recorded();
     let (mut first, mut last) = (u64::MAX, 0);
