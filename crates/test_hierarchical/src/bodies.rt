@@ -35,10 +35,10 @@ struct Nameless;
 
 impl Body for Nameless {
     fn run<C: Context>(&self, test: &mut Reporter<C>) -> Result<Outcome, UnitFault> {
-        if test.descriptor().is_ok() {
-            return Ok(Outcome::Failed(None));
+        match test.descriptor() {
+            Ok(_) => Ok(Outcome::Failed(None)),
+            Err(_) => Ok(Outcome::Successful),
         }
-        Ok(Outcome::Successful)
     }
 }
 
@@ -59,10 +59,10 @@ fn second_test<C: Context>(test: &mut Reporter<C>) -> Result<Outcome, UnitFault>
 // A dynamic test without a static descriptor, and one whose body is an outcome; it fails with its
 // own name.
 fn third_test<C: Context>(test: &mut Reporter<C>) -> Result<Outcome, UnitFault> {
-    let name = test.descriptor()?.name.try_clone()?;
     test.dynamic_test(("d", "1"), "nameless", &Nameless)?;
     let gone = Outcome::aborted(test.alloc(), "gone")?;
     test.dynamic_test(("d", "2"), "aborted", &gone)?;
+    let name = test.descriptor()?.name.try_clone()?;
     Ok(Outcome::Failed(Some(name)))
 }
 
