@@ -25,7 +25,8 @@ fn is_whole(counter: &AtomicU64) -> bool {
     seen % 2 == 0 && counter.load(Ordering::SeqCst) == seen
 }
 
-// Writes in each fourth round and reads in the others, and returns in how many rounds it saw a counter that was torn.
+// Writes in each fourth round and reads in the others, and returns in how many rounds it saw a
+// counter that was torn.
 fn work<R: Wait>(rt: &R, book: &Book, counter: &AtomicU64, mut seat: BookSeat) -> u32
     requires of_this { seat.book ≡ book.now }
     requires empty { seat.holds ≡ None }
@@ -87,8 +88,8 @@ fn wait_for(counter: &AtomicU64, number: u64) {
     }
 }
 
-// Reads until all read and have seen so. Then the first one releases, and may not write beside the other fourteen. Answers
-// whether the words were those.
+// Reads until all read and have seen so. Then the first one releases, and may not write beside the
+// other fourteen. Answers whether the words were those.
 fn read_with_all<R: Wait>(rt: &R, book: &Book, meeting: &Meeting, mut seat: BookSeat) -> bool
     requires of_this { seat.book ≡ book.now }
     requires empty { seat.holds ≡ None }

@@ -28,9 +28,11 @@ pub enum UnitStep {
     Begin,
     /// Counts as a unit that has come to its end.
     End,
-    /// Waits until the first number of units have begun, at most 10,000,000 turns, and then fails with the second.
+    /// Waits until the first number of units have begun, at most 10,000,000 turns, and then fails
+    /// with the second.
     Await(u32, u32),
-    /// Counts as begun for 100,000 turns, and fails with this number if another unit has begun meanwhile.
+    /// Counts as begun for 100,000 turns, and fails with this number if another unit has begun
+    /// meanwhile.
     Alone(u32),
     /// Fails with this number.
     Fail(u32),
@@ -160,8 +162,8 @@ fn two_tests(alloc: Global) -> Option<Arc<Table>> {
     Arc::new(alloc, table).ok()
 }
 
-/// Makes an engine of at most 65,536 units and 1,048,576 starts before them; none where there are more, or memory was
-/// refused.
+/// Makes an engine of at most 65,536 units and 1,048,576 starts before them; none where there are
+/// more, or memory was refused.
 pub fn engine<'a>(alloc: Global, units: &Units<'a>) -> Option<StepEngine<'a>> {
     if units.count > 65_536 || units.starts_before > 1_048_576 {
         return None;
@@ -263,7 +265,8 @@ fn emit<R: Wait, S: Sink>(rt: &R, sink: &mut S, event: Event) -> Result<(), Unit
     Ok(())
 }
 
-// Fails with the number of the sink's worker, as the key of what it registers says, and with the unit's.
+// Fails with the number of the sink's worker, as the key of what it registers says, and with the
+// unit's.
 #[tactic(auto, using(tk_engine_execute::proofs::SinkGrowth::grew_same, tk_engine_execute::proofs::SinkGrowth::grew_registered))]
 fn fail_as_worker<R: Wait, S: Sink>(
     rt: &R,

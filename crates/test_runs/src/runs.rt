@@ -364,8 +364,9 @@ fn before_and_after_are_asked_once(rt: HostRuntime) {
     };
     for workers in [1u32, 2, 15] {
         let seen = seen_by_all(&rt, rt.alloc(), workers, UnitStep::Start(0));
+        let are_all = matches!(seen, Some(seen) if seen.begun == ALL_OF_60);
         assert!(rt;
-            matches!(seen, Some(seen) if seen.begun == ALL_OF_60 && seen.before == first && seen.after == last),
+            are_all && matches!(seen, Some(seen) if seen.before == first && seen.after == last),
             "{workers}"
         );
         let seen = seen_by_all(&rt, rt.alloc(), workers, UnitStep::Fail(1));
