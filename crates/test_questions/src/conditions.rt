@@ -1,11 +1,26 @@
 //! Conditions under JUnit's names, and long texts of conditions.
 use std::alloc::{AllocError, Global};
+use tk_ids::Text;
 use tk_query_conditions::{Condition, read_condition, write_condition};
+
+// (Compared where no value is dropped, which is proved far sooner.)
+fn is_same(written: &str, text: &str) -> bool {
+    written == text
+}
+
+fn is_text(written: Result<Text, AllocError>, text: &str) -> Option<bool> {
+    match written {
+        Ok(written) => Some(is_same(written.as_str(), text)),
+        Err(_) => None,
+    }
+}
 
 // Whether a constructor's condition has this text; none where memory was refused.
 fn is_made_as(alloc: Global, made: Result<Condition, AllocError>, text: &str) -> Option<bool> {
-    let written = write_condition(alloc, &made.ok()?).ok()?;
-    Some(written.as_str() == text)
+    match made {
+        Ok(condition) => is_text(write_condition(alloc, &condition), text),
+        Err(_) => None,
+    }
 }
 
 // Whether the conditions on descriptors have their texts.

@@ -8,7 +8,9 @@ use tk_record::{Mismatch, Selection};
 #[test]
 fn ask_faults(rt: HostRuntime) {
     let deep = AskFault::Condition(3, CondFault::Deep);
-    assert!(rt; is_shown_as(rt.alloc(), &deep, "condition 3 is too deep"));
+    let is_shown = is_shown_as(rt.alloc(), &deep, "condition 3 is too deep");
+    drop(deep);
+    assert!(rt; is_shown);
 }
 
 #[test]

@@ -8,10 +8,24 @@ fn other_kinds() -> &'static [u8] {
     b"testkit-record|2\nN|C|[engine:e]|e\nE|1|65536|0|dynamic|T|[engine:e]/[d:1]|one\nE|1|65536|1|finish|abort\nE|15|0|2|report|k|v\nE|15|0|3|file|out/log.txt\n"
 }
 
+// (Compared where no value is dropped, which is proved far sooner.)
+fn are_same(positions: &[usize], want: &[usize]) -> bool {
+    positions == want
+}
+
+fn are_these(positions: Result<Vec<usize>, AllocError>, want: &[usize]) -> Option<bool> {
+    match positions {
+        Ok(positions) => Some(are_same(positions.as_slice(), want)),
+        Err(_) => None,
+    }
+}
+
 // Whether these are the events at these positions of their record; none where memory was refused.
 fn are_at(alloc: Global, events: Result<Events<'_>, AllocError>, want: &[usize]) -> Option<bool> {
-    let positions = events.ok()?.positions(alloc).ok()?;
-    Some(positions.as_slice() == want)
+    match events {
+        Ok(events) => are_these(events.positions(alloc), want),
+        Err(_) => None,
+    }
 }
 
 // Whether the events of descriptors and of workers are those of the record of two tests.
