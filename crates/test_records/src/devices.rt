@@ -12,13 +12,26 @@ fn writing_breaks(alloc: Global, record: &Record, text: &[u8], bytes: usize) -> 
 }
 
 // Whether the writer answers so at each call before the last byte went out, and not after it.
-fn writer_breaks(alloc: Global, text: &[u8]) -> Option<bool> {
-    let record = record_of(alloc, text)?;
-    let mut is_right = true;
-    for bytes in 0..=text.len() {
-        is_right &= writing_breaks(alloc, &record, text, bytes) == (bytes < text.len());
+fn writer_breaks(alloc: Global, record: &Record, text: &[u8]) -> bool {
+    for bytes in 0..text.len() {
+        if !writing_breaks(alloc, record, text, bytes) {
+            return false;
+        }
     }
-    Some(is_right)
+    !writing_breaks(alloc, record, text, text.len())
+}
+
+fn writer_of_breaks(alloc: Global, text: &[u8]) -> bool {
+    match record_of(alloc, text) {
+        Some(record) => writer_breaks(alloc, &record, text),
+        None => false,
+    }
+}
+
+#[test]
+fn writing_at_each_call(rt: HostRuntime) {
+    assert!(rt; writer_of_breaks(rt.alloc(), two_tests()));
+    assert!(rt; writer_of_breaks(rt.alloc(), two_locked_tests()));
 }
 
 fn reading_breaks(alloc: Global, text: &[u8], bytes: usize) -> bool {
@@ -30,16 +43,15 @@ fn reading_breaks(alloc: Global, text: &[u8], bytes: usize) -> bool {
 
 // Whether the reader answers so at each call up to the one that finds the end, and not after it.
 fn reader_breaks(alloc: Global, text: &[u8]) -> bool {
-    let mut is_right = true;
-    for bytes in 0..=text.len() + 1 {
-        is_right &= reading_breaks(alloc, text, bytes) == (bytes <= text.len());
+    for bytes in 0..=text.len() {
+        if !reading_breaks(alloc, text, bytes) {
+            return false;
+        }
     }
-    is_right
+    !reading_breaks(alloc, text, text.len() + 1)
 }
 
 #[test]
-fn each_call_breaks(rt: HostRuntime) {
-    assert_eq!(rt; writer_breaks(rt.alloc(), two_tests()), Some(true));
-    assert_eq!(rt; writer_breaks(rt.alloc(), two_locked_tests()), Some(true));
+fn reading_at_each_call(rt: HostRuntime) {
     assert!(rt; reader_breaks(rt.alloc(), two_locked_tests()));
 }

@@ -5,12 +5,21 @@ use tk_streams::{
     ByteSource, ByteTarget, LoadFault, Source, StdSource, StdTarget, Target, load, write_all,
 };
 
+// What loading four bytes with a limit answers.
+fn loaded(alloc: Global, limit: usize) -> Result<Vec<u8>, LoadFault> {
+    load(alloc, &mut ByteSource::new(b"four"), limit)
+}
+
 #[test]
 fn four_bytes(rt: HostRuntime) {
-    let three = load(rt.alloc(), &mut ByteSource::new(b"four"), 3);
-    assert!(rt; is_debugged_as(rt.alloc(), &three, "Err(TooLarge)"));
-    let four = load(rt.alloc(), &mut ByteSource::new(b"four"), 4);
-    assert!(rt; is_debugged_as(rt.alloc(), &four, "Ok([102, 111, 117, 114])"));
+    assert!(rt; is_debugged_as(rt.alloc(), &loaded(rt.alloc(), 3), "Err(TooLarge)"));
+    assert!(rt;
+        is_debugged_as(
+            rt.alloc(),
+            &loaded(rt.alloc(), 4),
+            "Ok([102, 111, 117, 114])"
+        )
+    );
 }
 
 // Whether loading five bytes with a limit of four, from a source that breaks at some call, has this
@@ -23,18 +32,22 @@ fn has_fault(alloc: Global, breaks_at: usize, want: LoadFault, is_broken: bool) 
 /// The source is not read again once there are more bytes than the limit.
 #[test]
 fn breaks_about_the_limit(rt: HostRuntime) {
-    for breaks_at in [0, 1, 4] {
-        assert!(rt; has_fault(rt.alloc(), breaks_at, LoadFault::Device, true));
-    }
+    assert!(rt; has_fault(rt.alloc(), 0, LoadFault::Device, true));
+    assert!(rt; has_fault(rt.alloc(), 1, LoadFault::Device, true));
+    assert!(rt; has_fault(rt.alloc(), 4, LoadFault::Device, true));
     assert!(rt; has_fault(rt.alloc(), 5, LoadFault::TooLarge, false));
+}
+
+// Whether a target of memory takes all bytes.
+fn takes(alloc: Global, bytes: &[u8]) -> bool {
+    let mut target = ByteTarget::new(alloc);
+    write_all(&mut target, bytes).is_ok() && target.bytes() == bytes
 }
 
 #[test]
 fn many_bytes(rt: HostRuntime) -> Result<(), AllocError> {
     let bytes = Vec::from_elem(rt.alloc(), 7u8, 1_200_000)?;
-    let mut target = ByteTarget::new(rt.alloc());
-    assert!(rt; write_all(&mut target, bytes.as_slice()).is_ok());
-    assert!(rt; target.bytes() == bytes.as_slice());
+    assert!(rt; takes(rt.alloc(), bytes.as_slice()));
     Ok(())
 }
 
@@ -48,11 +61,19 @@ fn writes_nothing_first<T: Target>(target: &mut T) -> bool {
     target.write_some(&[]) == Ok(0) && write_all(target, b"ab").is_ok() && !target.is_broken()
 }
 
+fn writer_of_std_writes_nothing_first(alloc: Global) -> bool {
+    let mut written = Vec::new(alloc);
+    writes_nothing_first(&mut StdTarget::new(&mut written))
+}
+
 #[test]
-fn nothing_first(rt: HostRuntime) {
+fn empty_reads(rt: HostRuntime) {
     assert!(rt; reads_nothing_first(&mut ByteSource::new(b"ab")));
     assert!(rt; reads_nothing_first(&mut StdSource::new(b"ab".as_slice())));
+}
+
+#[test]
+fn empty_writes(rt: HostRuntime) {
     assert!(rt; writes_nothing_first(&mut ByteTarget::new(rt.alloc())));
-    let mut written = Vec::new(rt.alloc());
-    assert!(rt; writes_nothing_first(&mut StdTarget::new(&mut written)));
+    assert!(rt; writer_of_std_writes_nothing_first(rt.alloc()));
 }

@@ -12,18 +12,23 @@ use tk_record::{AppendFault, Record};
 use tk_record_text::{write_record, write_tail};
 use tk_streams::ByteTarget;
 
+// Whether the second segment of an id has this value.
+fn has_second_value(id: &UniqueId, want: &str) -> bool {
+    match id.segments().get(1) {
+        Some(segment) => segment.value() == want,
+        None => false,
+    }
+}
+
 // Whether an id has the segments of its text; none for want of memory.
 fn has_its_segments(alloc: Global) -> Option<bool> {
     let id = UniqueId::read(alloc, "[engine:e]/[t:a%2Fb%3Ac%25]").ok()?;
-    let segments = id.segments();
-    let last = segments.get(1)?;
-    Some(segments.len() == 2 && last.tag() == "t" && last.value() == "a/b:c%")
+    Some(has_second_value(&id, "a/b:c%"))
 }
 
 #[test]
 fn reading_an_id_with_escapes(rt: HostRuntime) {
-    let answer = again_if_refused(|| has_its_segments(rt.alloc()));
-    assert_eq!(rt; answer, Some(true));
+    assert!(rt; again_if_refused(|| has_its_segments(rt.alloc())) == Some(true));
 }
 
 // Adds a root. Where memory is refused, the table is as long as before.

@@ -2,11 +2,11 @@
 //!
 //! The texts of faults and of records are fixed by clauses, which don't say that a value is shown.
 use crate::pairs::one_pair;
-use std::alloc::{AllocError, Global};
+use std::alloc::Global;
 use test_support::{are_shown, is_debugged_as, is_shown, record_of, two_tests};
 use tk_events::{Kind, Status};
 use tk_ids::{IdFault, Segment, TableFault, UniqueId};
-use tk_record::{Events, Expected, Record};
+use tk_record::{Events, Mismatch, Record, Selection, Statistics};
 use tk_record_text::{LineFault, NodesFault, WriteFault};
 use tk_streams::Broken;
 
@@ -38,29 +38,42 @@ fn faults_of_texts(rt: HostRuntime) {
     assert!(rt; is_shown(rt.alloc(), &Broken));
 }
 
-// Whether the events of two tests, their statistics, and the one number that differs from what is
-// expected are shown.
-fn is_record_shown(alloc: Global, record: &Record) -> Result<bool, AllocError> {
-    let events = Events::all(alloc, record)?;
-    let expected = Expected {
-        skipped: Some(0),
-        ..Expected::none()
-    };
-    let mismatches = events.check(alloc, &expected)?;
-    Ok(
-        is_shown(alloc, &events)
-            && is_shown(alloc, &events.statistics())
-            && mismatches.len() == 1
-            && is_shown(alloc, &mismatches[0]),
-    )
+fn are_events_shown(alloc: Global, record: &Record) -> bool {
+    match Events::all(alloc, record) {
+        Ok(events) => is_shown(alloc, &events),
+        Err(_) => false,
+    }
 }
 
 #[test]
-fn records(rt: HostRuntime) {
-    match record_of(rt.alloc(), two_tests()) {
-        Some(record) => assert_eq!(rt; is_record_shown(rt.alloc(), &record), Ok(true)),
-        None => assert!(rt; false),
-    }
+fn events(rt: HostRuntime) {
+    let are_shown = match record_of(rt.alloc(), two_tests()) {
+        Some(record) => are_events_shown(rt.alloc(), &record),
+        None => false,
+    };
+    assert!(rt; are_shown);
+}
+
+#[test]
+fn numbers(rt: HostRuntime) {
+    let statistics = Statistics {
+        skipped: 1,
+        started: 2,
+        finished: 2,
+        aborted: 0,
+        succeeded: 1,
+        failed: 1,
+        reporting: 0,
+        dynamic: 0,
+        files: 0,
+    };
+    assert!(rt; is_shown(rt.alloc(), &statistics));
+    let mismatch = Mismatch {
+        selection: Selection::Skipped,
+        expected: 0,
+        actual: 1,
+    };
+    assert!(rt; is_shown(rt.alloc(), &mismatch));
 }
 
 #[test]

@@ -33,21 +33,20 @@ fn is_renewed(alloc: Global, version: char, lines: &str) -> Result<bool, AllocEr
 
 #[test]
 fn texts_written_again(rt: HostRuntime) {
-    for text in [two_tests(), two_locked_tests()] {
-        assert!(rt; is_read_and_written_as(rt.alloc(), text, text));
-    }
-    for (version, lines) in [
-        ('1', each_tail()),
-        ('2', each_tail()),
-        ('2', files()),
-        ('3', files()),
-    ] {
-        assert_eq!(rt;
-            is_renewed(rt.alloc(), version, lines),
-            Ok(true),
-            "version {version}"
-        );
-    }
+    assert!(rt; is_read_and_written_as(rt.alloc(), two_tests(), two_tests()));
+    assert!(rt; is_read_and_written_as(rt.alloc(), two_locked_tests(), two_locked_tests()));
+}
+
+#[test]
+fn texts_of_each_version(rt: HostRuntime) {
+    assert!(rt; is_renewed(rt.alloc(), '1', each_tail()) == Ok(true));
+    assert!(rt; is_renewed(rt.alloc(), '2', files()) == Ok(true));
+    assert!(rt; is_renewed(rt.alloc(), '3', files()) == Ok(true));
+}
+
+// A long reason of a skip.
+fn long_reason(alloc: Global) -> Result<Payload, AllocError> {
+    Ok(Payload::Reason(Text::from("x".repeat(alloc, 100_000)?)))
 }
 
 // How many bytes the tail of a skip has that has this reason.
@@ -63,16 +62,22 @@ fn bytes_of_tail(alloc: Global, payload: &Payload) -> Option<usize> {
 }
 
 #[test]
-fn a_long_tail(rt: HostRuntime) -> Result<(), AllocError> {
-    let reason = Text::from("x".repeat(rt.alloc(), 100_000)?);
-    let bytes = bytes_of_tail(rt.alloc(), &Payload::Reason(reason));
-    assert_eq!(rt; bytes, Some(100_005));
-    Ok(())
+fn a_long_tail(rt: HostRuntime) {
+    let bytes = match long_reason(rt.alloc()) {
+        Ok(payload) => bytes_of_tail(rt.alloc(), &payload),
+        Err(_) => None,
+    };
+    assert!(rt; bytes == Some(100_005));
+}
+
+fn is_field(alloc: Global, text: &str, field: &str) -> bool {
+    match write_field(alloc, text) {
+        Ok(written) => written.as_str() == field,
+        Err(_) => false,
+    }
 }
 
 #[test]
-fn a_field(rt: HostRuntime) -> Result<(), AllocError> {
-    let field = write_field(rt.alloc(), "a|b\\c\nd\rä")?;
-    assert_eq!(rt; field.as_str(), "a\\pb\\\\c\\nd\rä");
-    Ok(())
+fn a_field(rt: HostRuntime) {
+    assert!(rt; is_field(rt.alloc(), "a|b\\c\nd\rä", "a\\pb\\\\c\\nd\rä"));
 }
