@@ -16,7 +16,7 @@ LIMITS = Limits(
         "crates/example_engine/src/evens.rt even_numbers",
     ],
     fewest_wrong_bodies=87,
-    fewest_tests=225,
+    fewest_tests=145,
     most_restated=3,
 )
 
