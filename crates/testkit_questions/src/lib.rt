@@ -21,4 +21,4 @@ pub use explanations::explain_match;
 pub use fault_texts::AskFaultText;
 pub use faults::AskFault;
 pub use questions::{Mode, Question, QuestionName, Request};
-pub use reading::{read_question, read_request};
+pub use reading::{holders, read_question, read_request};

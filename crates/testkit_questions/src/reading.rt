@@ -171,8 +171,9 @@ fn read_list(alloc: Global, words: &[String], first: usize) -> Result<Question, 
     }
 }
 
-// The conditions of writers and of readers. Where there is one condition, there are no readers.
-fn holders(alloc: Global, conditions: Vec<Condition>) -> (Condition, Condition)
+/// The conditions of writers and of readers, of one or two conditions. Where there is one, no event
+/// is a reader's.
+pub fn holders(alloc: Global, conditions: Vec<Condition>) -> (Condition, Condition)
     requires some { 0 < length conditions.items }
     requires few { length conditions.items ≤ 2 }
     ensures { (conditions.items ≡ result.0 ∷ result.1 ∷ [])

@@ -1,7 +1,5 @@
 //! What a test expects of a record.
 ghost use Rattle.std.specs.Prelude.{◌≡◌, ◌∷◌, ◌<◌, ◌≤◌, ◌⊎◌, ℕ, List, [], length, map, string_bytes, IfErr, IfOk};
-ghost use Rattle.tk_query_conditions.specs.Cond.{Any, Nothing};
-ghost use Rattle.tk_query_conditions.specs.CondOf.{cond_of};
 ghost use Rattle.tk_explanations.specs.Collisions.{ExplainsExclusive};
 ghost use Rattle.tk_explanations.specs.Lifecycles.{ExplainsLifecycle};
 ghost use Rattle.tk_explanations.specs.LockCollisions.{ExplainsLocks};
@@ -20,7 +18,7 @@ use crate::failures::{Failure, Unmet};
 use crate::report_differences::difference;
 use crate::uncounted_events::uncounted_events;
 use std::alloc::{AllocError, Global};
-use testkit_questions::{Mode, explain_match, read_conditions, read_expectations};
+use testkit_questions::{Mode, explain_match, holders, read_conditions, read_expectations};
 use tk_explanations::{explain_exclusive, explain_lifecycle, explain_locks, explain_statistics};
 use tk_query_conditions::Condition;
 use tk_record::{Events, Expected, Record, Selection};
@@ -39,23 +37,6 @@ fn conditions_of(alloc: Global, texts: &[&str]) -> Result<Vec<Condition>, Failur
             let shown = bad_condition(alloc, fault, texts)?;
             Err(Failure::Condition(fault, shown))
         }
-    }
-}
-
-// Takes the conditions of writers and of readers. Where there is one condition, that of readers
-// holds of no event.
-fn holders(alloc: Global, conditions: Vec<Condition>) -> (Condition, Condition)
-    requires some { 0 < length conditions.items }
-    requires few { length conditions.items ≤ 2 }
-    ensures { (conditions.items ≡ result.0 ∷ result.1 ∷ [])
-        ⊎ ((conditions.items ≡ result.0 ∷ []) × (cond_of result.1 ≡ Any Nothing)) }
-{
-    let mut first = conditions;
-    let last = first.pop();
-    match (first.pop(), last) {
-        (Some(writers), Some(readers)) => (writers, readers),
-        (None, Some(writers)) => (writers, Condition::Any(Vec::new(alloc))),
-        (_, None) => unreachable!(),
     }
 }
 
