@@ -1,5 +1,5 @@
 //! An engine whose tests have bodies: what it records, by any number of workers.
-use crate::calls::{engine_of, is_recorded, results_of, statistics_of};
+use crate::calls::{engine_of, is_recorded, results_of, run_test, skip_test, statistics_of};
 use std::alloc::Global;
 use std::sync::Wait;
 use std::thread::Threads;
@@ -23,9 +23,9 @@ struct Group;
 
 impl Body for Group {
     fn run<C: Context>(&self, test: &mut Reporter<C>) -> Result<Outcome, UnitFault> {
-        test.dynamic_test(("d", "1"), "one", &Failing)?;
+        run_test(("d", "1"), "one", &Failing, test)?;
         test.set_stamp(500_000);
-        test.skip_test(("d", "2"), "two", "off")?;
+        skip_test("2", "two", test)?;
         Ok(Outcome::Successful)
     }
 }
@@ -52,16 +52,16 @@ fn first_test<C: Context>(test: &mut Reporter<C>) -> Result<Outcome, UnitFault> 
 // A dynamic test at a stamp of the test's own.
 fn second_test<C: Context>(test: &mut Reporter<C>) -> Result<Outcome, UnitFault> {
     test.set_stamp(1_000_000);
-    test.dynamic_test(("d", "x"), "x", &Failing)?;
+    run_test(("d", "x"), "x", &Failing, test)?;
     Ok(Outcome::Aborted(None))
 }
 
 // A dynamic test without a static descriptor, and one whose body is an outcome; it fails with its
 // own name.
 fn third_test<C: Context>(test: &mut Reporter<C>) -> Result<Outcome, UnitFault> {
-    test.dynamic_test(("d", "1"), "nameless", &Nameless)?;
+    run_test(("d", "1"), "nameless", &Nameless, test)?;
     let gone = Outcome::aborted(test.alloc(), "gone")?;
-    test.dynamic_test(("d", "2"), "aborted", &gone)?;
+    run_test(("d", "2"), "aborted", &gone, test)?;
     let name = test.descriptor()?.name.try_clone()?;
     Ok(Outcome::Failed(Some(name)))
 }

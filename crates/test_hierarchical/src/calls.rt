@@ -1,12 +1,10 @@
 //! Calls that many tests make. They have no clauses, so a test that makes them carries no contract.
-use std::alloc::Global;
+use std::alloc::{AllocError, Global};
 use std::sync::Wait;
 use std::thread::Threads;
 use test_support::is_written_as;
 use tk_engine_execute::{Engine, Results, UnitFault, execute};
-use tk_engine_hierarchical::{Context, Hierarchical, Reporter, Tests};
-use tk_events::Pairs;
-use tk_ids::Text;
+use tk_engine_hierarchical::{Body, Context, Hierarchical, Reporter, Tests};
 use tk_plan_reading::read_plan;
 use tk_query_lifecycle::Lifecycle;
 use tk_record::Statistics;
@@ -76,15 +74,39 @@ pub(crate) fn ends_so<R: Threads + Wait + Sync, E: Engine + Drop>(
     matches!(printed_ending(rt, alloc, &engine), Some(text) if text.as_str() == ending)
 }
 
-/// Publishes an entry of these pairs.
-pub(crate) fn report_pairs<C: Context>(
-    pairs: &[(&str, &str)],
+/// The text of a plan with a test at the bottom of a chain of containers, `levels` levels in all.
+/// Each node has these members beside its own.
+pub(crate) fn chain(alloc: Global, levels: u32, members: &str) -> Result<String, AllocError> {
+    let mut plan = String::from_str(alloc, r#"{"version":2,"root":{"#)?;
+    for _ in 1..levels {
+        plan.push_str(r#""type":"container","segment":["c","c"],"name":"c""#)?;
+        plan.push_str(members)?;
+        plan.push_str(r#","children":[{"#)?;
+    }
+    plan.push_str(r#""type":"test","segment":["t","t"],"name":"t""#)?;
+    plan.push_str(members)?;
+    for _ in 1..levels {
+        plan.push_str("}]")?;
+    }
+    plan.push_str("}}")?;
+    Ok(plan)
+}
+
+/// Runs a dynamic test.
+pub(crate) fn run_test<B: Body, C: Context>(
+    segment: (&str, &str),
+    name: &str,
+    body: &B,
     test: &mut Reporter<C>,
 ) -> Result<(), UnitFault> {
-    let alloc = test.alloc();
-    let mut entry = Pairs::new(alloc);
-    for (key, value) in pairs {
-        entry.push(Text::copy(alloc, key)?, Text::copy(alloc, value)?)?;
-    }
-    test.report_pairs(entry)
+    test.dynamic_test(segment, name, body)
+}
+
+/// Skips a dynamic test, whose id ends with the tag `d` and this value.
+pub(crate) fn skip_test<C: Context>(
+    value: &str,
+    name: &str,
+    test: &mut Reporter<C>,
+) -> Result<(), UnitFault> {
+    test.skip_test(("d", value), name, "off")
 }

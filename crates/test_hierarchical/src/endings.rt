@@ -1,5 +1,5 @@
 //! Faults of bodies: which one a unit ends with, also where a body drops that of a dynamic test.
-use crate::calls::{ends_so, engine_of, report_pairs};
+use crate::calls::{ends_so, engine_of, run_test};
 use std::alloc::Global;
 use std::sync::{Mutex, Wait};
 use std::thread::Threads;
@@ -15,8 +15,6 @@ enum Below {
     Fails,
     /// Fails with a text.
     FailsInWords,
-    /// Publishes an entry whose keys fall.
-    PublishesUnlawful,
     /// Publishes a file without a path.
     NamesNoFile,
 }
@@ -27,7 +25,6 @@ impl Body for Below {
             Below::Succeeds => {}
             Below::Fails => return Err(UnitFault::Own(9)),
             Below::FailsInWords => return Err(UnitFault::Text("the tape is missing")),
-            Below::PublishesUnlawful => report_pairs(&[("l", "v"), ("k", "w")], test)?,
             Below::NamesNoFile => test.file("")?,
         }
         Ok(Outcome::Successful)
@@ -36,7 +33,7 @@ impl Body for Below {
 
 // Runs a dynamic test, whose id ends with this tag and "1".
 fn run_below<C: Context>(tag: &str, below: Below, test: &mut Reporter<C>) -> Result<(), UnitFault> {
-    test.dynamic_test((tag, "1"), "d", &below)
+    run_test((tag, "1"), "d", &below, test)
 }
 
 // A body that runs a dynamic test, and drops its fault.
@@ -143,8 +140,8 @@ fn rows() -> [(Doing, &'static str); 13] {
         (Doing::DropsBelow(Below::Fails), own),
         (Doing::Drops(Below::FailsInWords), in_words),
         (Doing::DropsBelow(Below::FailsInWords), in_words),
-        (Doing::Drops(Below::PublishesUnlawful), unlawful),
-        (Doing::DropsBelow(Below::PublishesUnlawful), unlawful),
+        (Doing::Drops(Below::NamesNoFile), unlawful),
+        (Doing::DropsBelow(Below::NamesNoFile), unlawful),
         (
             Doing::DropsAndFails(Below::Fails),
             "unit 0 failed: engine fault 7",

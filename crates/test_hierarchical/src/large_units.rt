@@ -1,5 +1,5 @@
 //! Units with as many levels as a plan may have, and with many nodes.
-use crate::calls::{engine_of, results_of, statistics_of};
+use crate::calls::{chain, engine_of, results_of, statistics_of};
 use crate::planned::Silent;
 use std::alloc::{AllocError, Global};
 use std::sync::Wait;
@@ -36,23 +36,9 @@ fn succeeding(count: u64) -> Statistics {
     }
 }
 
-// A test at the bottom of a chain of nodes of one thread, `levels` levels in all.
-fn chain(alloc: Global, levels: u32) -> Result<String, AllocError> {
-    let mut plan = String::from_str(alloc, r#"{"version":2,"root":"#)?;
-    for _ in 1..levels {
-        plan.push_str(r#"{"type":"container","segment":["c","c"],"name":"c","children":["#)?;
-    }
-    plan.push_str(r#"{"type":"test","segment":["t","t"],"name":"t"}"#)?;
-    for _ in 1..levels {
-        plan.push_str("]}")?;
-    }
-    plan.push_str("}")?;
-    Ok(plan)
-}
-
 #[test]
 fn sixty_levels(rt: HostRuntime) {
-    assert!(rt; all_succeed(&rt, rt.alloc(), chain(rt.alloc(), 60), 60));
+    assert!(rt; all_succeed(&rt, rt.alloc(), chain(rt.alloc(), 60, ""), 60));
 }
 
 // A root with this many containers, which have a test each, and another test.

@@ -1,11 +1,11 @@
 //! As much as a body may register and emit, and one more.
-use crate::calls::{ends_so, engine_of, report_pairs};
-use std::alloc::{AllocError, Global};
+use crate::calls::{chain, ends_so, engine_of, skip_test};
+use std::alloc::Global;
 use std::sync::Wait;
 use std::thread::Threads;
 use tk_engine_execute::UnitFault;
 use tk_engine_hierarchical::{Body, Context, Reporter, Tests};
-use tk_events::Outcome;
+use tk_events::{Outcome, Pairs};
 
 // What the test of a plan does, whose id is `[c:c]/[t:t]` or, below a chain, has 60 segments.
 #[derive(Clone, Copy)]
@@ -39,7 +39,7 @@ impl Body for Skipping {
     fn run<C: Context>(&self, test: &mut Reporter<C>) -> Result<Outcome, UnitFault> {
         for number in 0..self.0 {
             let value = format!(in test.alloc(); "{number}")?;
-            test.skip_test(("d", value.as_str()), "d", "off")?;
+            skip_test(value.as_str(), "d", test)?;
         }
         Ok(Outcome::Successful)
     }
@@ -50,13 +50,13 @@ fn skip_long<C: Context>(letters: u32, test: &mut Reporter<C>) -> Result<Outcome
     for _ in 0..letters {
         value.push('d')?;
     }
-    test.skip_test(("d", value.as_str()), "d", "off")?;
+    skip_test(value.as_str(), "d", test)?;
     Ok(Outcome::Successful)
 }
 
 fn report_all<C: Context>(count: u32, test: &mut Reporter<C>) -> Result<Outcome, UnitFault> {
     for _ in 0..count {
-        report_pairs(&[], test)?;
+        test.report_pairs(Pairs::new(test.alloc()))?;
     }
     Ok(Outcome::Successful)
 }
@@ -72,26 +72,8 @@ impl Tests for Doing {
     }
 }
 
-// The plan of a test with an entry that is a unit of its own, at the bottom of a chain of nodes,
-// `levels` levels in all.
-fn plan(alloc: Global, levels: u32) -> Result<String, AllocError> {
-    let mut plan = String::from_str(alloc, r#"{"version":2,"root":"#)?;
-    for _ in 1..levels {
-        plan.push_str(
-            r#"{"type":"container","segment":["c","c"],"name":"c","mode":"concurrent","children":["#,
-        )?;
-    }
-    plan.push_str(
-        r#"{"type":"test","segment":["t","t"],"name":"t","mode":"concurrent","entries":[[]]}"#,
-    )?;
-    for _ in 1..levels {
-        plan.push_str("]}")?;
-    }
-    plan.push_str("}")?;
-    Ok(plan)
-}
-
-// Whether a run by one worker ends so.
+// Whether a run by one worker ends so, of a plan of a test that is a unit of its own, at the bottom of
+// a chain of nodes, `levels` levels in all, each of which publishes an entry.
 fn ends<R: Threads + Wait + Sync>(
     rt: &R,
     alloc: Global,
@@ -99,7 +81,7 @@ fn ends<R: Threads + Wait + Sync>(
     doing: Doing,
     ending: &str,
 ) -> bool {
-    match plan(alloc, levels) {
+    match chain(alloc, levels, r#","mode":"concurrent","entries":[[]]"#) {
         Ok(plan) => ends_so(rt, alloc, engine_of(alloc, plan.as_bytes(), doing), ending),
         Err(_) => false,
     }

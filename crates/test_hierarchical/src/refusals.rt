@@ -1,7 +1,7 @@
 //! Runs of bodies, with ample memory and with any one request for memory refused. What is refused
 //! is asked once more, and then it has to succeed.
 use crate::bodies::{sample_engine, sample_record};
-use crate::calls::engine_of;
+use crate::calls::{engine_of, skip_test};
 use std::alloc::Global;
 use std::sync::Wait;
 use std::thread::Threads;
@@ -54,19 +54,15 @@ fn a_run_of_bodies(rt: HostRuntime) {
     assert!(rt; is_done(|| run(&rt, alloc, sample_engine(alloc), sample_record())));
 }
 
-fn skip_below<C: Context>(test: &mut Reporter<C>) -> Result<(), UnitFault> {
-    test.skip_test(("d", "1"), "d", "off")
-}
-
 // A test that asks once more for what was refused: a descriptor that isn't there has no id.
 #[derive(Drop)]
 struct Insisting;
 
 impl Tests for Insisting {
     fn run<C: Context>(&self, _key: u32, test: &mut Reporter<C>) -> Result<Outcome, UnitFault> {
-        match skip_below(test) {
+        match skip_test("1", "d", test) {
             Ok(()) => {}
-            Err(_) => skip_below(test)?,
+            Err(_) => skip_test("1", "d", test)?,
         }
         Ok(Outcome::Successful)
     }

@@ -1,5 +1,5 @@
 //! Engines whose clock gives the stamps.
-use crate::calls::{is_recorded, results_of};
+use crate::calls::{is_recorded, results_of, run_test, skip_test};
 use std::alloc::Global;
 use std::sync::Wait;
 use std::sync::atomic::{AtomicU64, Ordering};
@@ -42,8 +42,8 @@ impl Tests for Timed {
         if key == 2 {
             test.set_stamp(7);
         }
-        test.dynamic_test(("d", "1"), "one", &Reporting)?;
-        test.skip_test(("d", "2"), "two", "off")?;
+        run_test(("d", "1"), "one", &Reporting, test)?;
+        skip_test("2", "two", test)?;
         test.file("out.txt")?;
         Ok(Outcome::Successful)
     }
