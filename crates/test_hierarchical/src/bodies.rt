@@ -35,10 +35,14 @@ struct Nameless;
 
 impl Body for Nameless {
     fn run<C: Context>(&self, test: &mut Reporter<C>) -> Result<Outcome, UnitFault> {
-        match test.descriptor() {
-            Ok(_) => Ok(Outcome::Failed(None)),
-            Err(_) => Ok(Outcome::Successful),
-        }
+        let descriptor = test.descriptor();
+        let is_static = descriptor.is_ok();
+        drop(descriptor);
+        Ok(if is_static {
+            Outcome::Failed(None)
+        } else {
+            Outcome::Successful
+        })
     }
 }
 
@@ -56,12 +60,18 @@ fn second_test<C: Context>(test: &mut Reporter<C>) -> Result<Outcome, UnitFault>
     Ok(Outcome::Aborted(None))
 }
 
-// A dynamic test without a static descriptor, and one whose body is an outcome; it fails with its
-// own name.
+// A dynamic test whose body is an outcome.
+fn abort_below<C: Context>(test: &mut Reporter<C>) -> Result<(), UnitFault> {
+    let gone = Outcome::aborted(test.alloc(), "gone")?;
+    let ended = run_test(("d", "2"), "aborted", &gone, test);
+    drop(gone);
+    ended
+}
+
+// Two dynamic tests, the first without a static descriptor; it fails with its own name.
 fn third_test<C: Context>(test: &mut Reporter<C>) -> Result<Outcome, UnitFault> {
     run_test(("d", "1"), "nameless", &Nameless, test)?;
-    let gone = Outcome::aborted(test.alloc(), "gone")?;
-    run_test(("d", "2"), "aborted", &gone, test)?;
+    abort_below(test)?;
     let name = test.descriptor()?.name.try_clone()?;
     Ok(Outcome::Failed(Some(name)))
 }

@@ -68,11 +68,6 @@ enum Doing {
     DropsTwice,
 }
 
-fn register_twice<C: Context>(test: &mut Reporter<C>) -> Result<(), UnitFault> {
-    run_below("d", Below::Succeeds, test)?;
-    run_below("d", Below::Succeeds, test)
-}
-
 fn act<C: Context>(doing: Doing, test: &mut Reporter<C>) -> Result<(), UnitFault> {
     match doing {
         Doing::Answers(below) => drop(below.run(test)?),
@@ -86,8 +81,14 @@ fn act<C: Context>(doing: Doing, test: &mut Reporter<C>) -> Result<(), UnitFault
             return Err(UnitFault::Own(7));
         }
         Doing::RegistersStatic => return run_below("t", Below::Succeeds, test),
-        Doing::RegistersTwice => return register_twice(test),
-        Doing::DropsTwice => drop(register_twice(test)),
+        Doing::RegistersTwice => {
+            drop(run_below("d", Below::Succeeds, test));
+            return run_below("d", Below::Succeeds, test);
+        }
+        Doing::DropsTwice => {
+            drop(run_below("d", Below::Succeeds, test));
+            drop(run_below("d", Below::Succeeds, test));
+        }
     }
     Ok(())
 }
