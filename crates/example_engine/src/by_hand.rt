@@ -9,6 +9,7 @@
 
 mod broken;
 mod case_engine;
+mod descriptors;
 mod even;
 mod numbers;
 mod running;

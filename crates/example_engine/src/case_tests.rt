@@ -14,8 +14,7 @@ fn outcome_of<F: Function>(alloc: Global, function: &F, case: Case) -> Result<Ou
     ensures { IfOk result (λ outcome.
         (outcome ≡ Successful) ↔ (F.value function.now case.argument ≡ case.expected)) }
 {
-    let expected = case.expected;
-    let actual = function.value(case.argument);
+    let (expected, actual) = (case.expected, function.value(case.argument));
     if actual == expected {
         return Ok(Outcome::Successful);
     }
@@ -57,14 +56,11 @@ fn run_cases<F: Function, C: Context>(
     Ok(())
 }
 
-// The table of this name.
-fn table_of<'t>(tables: &'t [CaseTable<'t>], name: &str) -> Option<&'t CaseTable<'t>> {
-    for table in tables {
-        if table.name == name {
-            return Some(table);
-        }
-    }
-    None
+// Publishes how many cases a table has, and where its log lies.
+fn publish<C: Context>(table: &CaseTable, test: &mut Reporter<C>) -> Result<(), UnitFault> {
+    let (alloc, name, cases) = (test.alloc(), table.name, table.cases.len());
+    test.report("cases", format!(in alloc; "{cases}")?.as_str())?;
+    test.file(format!(in alloc; "out/{name}.txt")?.as_str())
 }
 
 /// Tables of cases of a function.
@@ -75,15 +71,13 @@ pub struct CaseTests<'a, F> {
 }
 
 impl<F: Function> Tests for CaseTests<'_, F> {
-    // Runs the cases of a table, and publishes how many there are and where its log lies.
-    fn run<C: Context>(&self, _key: u32, test: &mut Reporter<C>) -> Result<Outcome, UnitFault> {
-        let Some(table) = table_of(self.tables, test.descriptor()?.name.as_str()) else {
-            return Err(UnitFault::Text("no table has the test's name"));
+    // Runs the cases of a table. The tables have the keys from 1, after the root.
+    fn run<C: Context>(&self, key: u32, test: &mut Reporter<C>) -> Result<Outcome, UnitFault> {
+        let Some(table) = self.tables.get(key.wrapping_sub(1) as usize) else {
+            return Err(UnitFault::Text("no table has the test's key"));
         };
-        let (alloc, name, cases) = (test.alloc(), table.name, table.cases.len());
         run_cases(self.function, table.cases, test)?;
-        test.report("cases", format!(in alloc; "{cases}")?.as_str())?;
-        test.file(format!(in alloc; "out/{name}.txt")?.as_str())?;
+        publish(table, test)?;
         Ok(Outcome::Successful)
     }
 }
@@ -94,13 +88,13 @@ fn node_of<'t>(
     table: CaseTable<'t>,
     lock: &'t str,
 ) -> Result<PlanNode<'t>, AllocError> {
-    let node = PlanNode::container_and_test(alloc, ("table", table.name), table.name)
-        .mode(ExecutionMode::Concurrent)
-        .lock(lock, LockMode::ReadWrite)?;
-    match table.disabled {
-        Some(reason) => Ok(node.skip(reason)),
-        None => Ok(node),
+    let mut node = PlanNode::container_and_test(alloc, ("table", table.name), table.name).mode(
+        ExecutionMode::Concurrent,
+    );
+    if let Some(reason) = table.disabled {
+        node = node.skip(reason);
     }
+    node.lock(lock, LockMode::ReadWrite)
 }
 
 /// Makes an engine that runs each table under the lock with this key.

@@ -40,18 +40,19 @@ const TESTS: [Test; 6] = [
     ("printer", "cleaning", Isolated, Report("pages", "0")),
 ];
 
-// The fault of a test that isn't in the table.
-const MISSING: &str = "the table has no such test";
-
 // The body of a container: a test for each of two rows.
 #[derive(Drop)]
 struct Sheet(&'static str, &'static str);
 
+// Runs a test that succeeds.
+fn run_row<C: Context>(row: &str, test: &mut Reporter<C>) -> Result<(), UnitFault> {
+    test.dynamic_test(("row", row), row, &Outcome::Successful)
+}
+
 impl Body for Sheet {
     fn run<C: Context>(&self, test: &mut Reporter<C>) -> Result<Outcome, UnitFault> {
-        for row in [self.0, self.1] {
-            test.dynamic_test(("row", row), row, &Outcome::Successful)?;
-        }
+        run_row(self.0, test)?;
+        run_row(self.1, test)?;
         Ok(Outcome::Successful)
     }
 }
@@ -63,11 +64,20 @@ pub struct DeskTests {
     bodies: Bodies,
 }
 
+impl DeskTests {
+    // What the test with this key does.
+    fn command(&self, key: u32) -> Option<Command> {
+        let number = self.bodies.at(key)?;
+        Some(TESTS.get(number as usize)?.3)
+    }
+}
+
 impl Tests for DeskTests {
     fn run<C: Context>(&self, key: u32, test: &mut Reporter<C>) -> Result<Outcome, UnitFault> {
-        let number = self.bodies.at(key).ok_or(UnitFault::Text(MISSING))?;
-        let planned = TESTS.get(number as usize).ok_or(UnitFault::Text(MISSING))?;
-        match planned.3 {
+        let Some(command) = self.command(key) else {
+            return Err(UnitFault::Text("the table has no such test"));
+        };
+        match command {
             Abort(reason) => return Ok(Outcome::aborted(test.alloc(), reason)?),
             Fail(message) => return Ok(Outcome::failed(test.alloc(), message)?),
             File(path) => test.file(path)?,
@@ -81,11 +91,11 @@ impl Tests for DeskTests {
 // A test as a node of the plan.
 fn test_node(alloc: Global, test: Test) -> Result<PlanNode<'static>, AllocError> {
     let (group, name, planned, command) = test;
-    let dtype = match command {
+    let kind = match command {
         Rows(..) => DType::Both,
         _ => DType::Test,
     };
-    let node = PlanNode::new(alloc, dtype, ("test", name), name).mode(ExecutionMode::Concurrent);
+    let node = PlanNode::new(alloc, kind, ("test", name), name).mode(ExecutionMode::Concurrent);
     match planned {
         Reads => node.lock(group, LockMode::Read),
         Writes => node.lock(group, LockMode::ReadWrite),
@@ -106,13 +116,18 @@ fn group_node(alloc: Global, group: &'static str) -> Result<PlanNode<'static>, A
     node.mode(ExecutionMode::Concurrent).children(tests)
 }
 
+// The root with its groups.
+fn root_node(alloc: Global) -> Result<PlanNode<'static>, AllocError> {
+    let mut root = PlanNode::container(alloc, ("engine", "desk"), "desk");
+    for group in GROUPS {
+        root = root.child(group_node(alloc, group)?)?;
+    }
+    Ok(root)
+}
+
 /// Makes the engine.
 pub fn desk_engine(alloc: Global) -> Result<Hierarchical<DeskTests>, BuildFault> {
-    let mut groups = Vec::new(alloc);
-    for group in GROUPS {
-        groups.push(group_node(alloc, group)?)?;
-    }
-    let root = PlanNode::container(alloc, ("engine", "desk"), "desk").children(groups)?;
+    let root = root_node(alloc)?;
     let (plan, bodies) = (build_plan(alloc, &root)?, root.bodies(alloc)?);
     Ok(Hierarchical::new(alloc, plan, DeskTests { bodies })?)
 }

@@ -9,9 +9,8 @@ use std::alloc::Global;
 pub struct EvenNumbers;
 
 impl Tests for EvenNumbers {
-    fn run<C: Context>(&self, _key: u32, test: &mut Reporter<C>) -> Result<Outcome, UnitFault> {
-        let name = test.descriptor()?.name.as_str();
-        let number = if name == "four" { 4 } else { 5 };
+    fn run<C: Context>(&self, key: u32, test: &mut Reporter<C>) -> Result<Outcome, UnitFault> {
+        let number = if key == 1 { 4 } else { 5 };
         if number % 2 == 0 {
             return Ok(Outcome::Successful);
         }

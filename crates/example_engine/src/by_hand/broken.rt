@@ -12,7 +12,7 @@ use engine_testkit::{
 use std::alloc::Global;
 
 /// What an engine does wrong.
-#[derive(Clone, Copy, Debug)]
+#[derive(Clone, Copy)]
 pub enum Defect {
     /// The second test finishes twice.
     FinishedTwice,

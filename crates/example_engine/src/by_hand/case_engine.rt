@@ -4,11 +4,12 @@
 ghost use Rattle.std.specs.Prelude.{◌≡◌, ◌+◌, [], ◌∷◌, length, ◌≤◌, slice_get, IfOk, IfSome, OnOk};
 ghost use Rattle.std.specs.Option.{option_copied};
 
+use crate::by_hand::descriptors::add;
 use crate::by_hand::running::run_table;
 use crate::cases::{CaseTable, Function};
 use engine_testkit::{
-    BookSeat, DType, Engine, Event, Need, Outcome, Segment, Sink, Table, TableFault, UnitFault,
-    finished, started,
+    BookSeat, DType, Engine, Event, Need, Outcome, Sink, Table, TableFault, UnitFault, finished,
+    started,
 };
 use std::alloc::{AllocError, Global};
 use std::marker::Model;
@@ -43,33 +44,21 @@ impl<'a, F> Model for CaseEngine<'a, F> {
         × (length e.tables.now < 65536) };
 }
 
-// Adds a container whose name is the value of its segment.
-fn add(
-    alloc: Global,
-    table: &mut Table,
-    parent: Option<u32>,
-    tag: &str,
-    name: &str,
-) -> Result<(), TableFault>
-    ensures { OnOk result ((length table.new ≡ length table.old + 1)
-        × (length table.new ≤ 65536)) }
-{
-    let segment = match Segment::new(alloc, tag, name) {
-        Ok(segment) => segment,
-        Err(fault) => return Err(TableFault::Id(fault)),
-    };
-    table.add(alloc, parent, &segment, name, DType::Container)?;
-    Ok(())
-}
-
 // The root and a container for each table.
 fn descriptors_of(alloc: Global, tables: &[CaseTable<'_>]) -> Result<Table, TableFault>
     ensures { IfOk result (λ t. (length t ≡ length tables.now + 1) × (length t ≤ 65536)) }
 {
     let mut table = Table::new(alloc);
-    add(alloc, &mut table, None, "engine", "cases")?;
+    add(alloc, &mut table, None, "engine", "cases", DType::Container)?;
     for one in tables {
-        add(alloc, &mut table, Some(0), "table", one.name)?;
+        add(
+            alloc,
+            &mut table,
+            Some(0),
+            "table",
+            one.name,
+            DType::Container,
+        )?;
     }
     Ok(table)
 }

@@ -6,9 +6,10 @@ ghost use Rattle.std.specs.Arc.{arc_value};
 ghost use Rattle.engine_testkit.specs.Events.{finished, started};
 ghost use Rattle.engine_testkit.specs.Outcome.TheVariants.{Failed, Successful};
 
+use crate::by_hand::descriptors::add;
 use engine_testkit::{
-    BookSeat, DType, Engine, Event, Need, Outcome, Segment, Sink, Table, TableFault, UnitFault,
-    finish, finished, start, started,
+    BookSeat, DType, Engine, Event, Need, Outcome, Sink, Table, TableFault, UnitFault, finish,
+    finished, start, started,
 };
 use std::alloc::{AllocError, Global};
 use std::sync::{Arc, Wait};
@@ -31,11 +32,9 @@ impl EvenEngine {
     pub fn new(alloc: Global, number: u64) -> Result<EvenEngine, TableFault>
         ensures { IfOk result (λ engine. engine.number ≡ number) }
     {
-        let root = Segment::new(alloc, "engine", "even").map_err(TableFault::Id)?;
-        let test = Segment::new(alloc, "test", "number").map_err(TableFault::Id)?;
         let mut table = Table::new(alloc);
-        let key = table.add(alloc, None, &root, "even", DType::Container)?;
-        let _test = table.add(alloc, Some(key), &test, "number", DType::Test)?;
+        add(alloc, &mut table, None, "engine", "even", DType::Container)?;
+        add(alloc, &mut table, Some(0), "test", "number", DType::Test)?;
         let (need, table) = (Need::none(), Arc::new(alloc, table)?);
         Ok(EvenEngine {
             number,

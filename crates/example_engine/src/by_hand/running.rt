@@ -20,7 +20,8 @@ use std::sync::Wait;
 fn failure_of(alloc: Global, expected: u64, actual: u64) -> Result<Text, AllocError>
     ensures { IfOk result (λ text. text ≡ failure_text expected actual) }
 {
-    Ok(Text::from(format!(in alloc; "expected: <{expected}> but was: <{actual}>")?))
+    let text = format!(in alloc; "expected: <{expected}> but was: <{actual}>")?;
+    Ok(Text::from(text))
 }
 
 // A case's outcome: a success, or a failure with both values.

@@ -1,7 +1,7 @@
 //! An engine with one of eight defects: which expectation finds it, and how that fails.
 use engine_testkit::{Expect, Failure, Selection, execute};
 use example_engine::by_hand::{Defect, broken_engine};
-use std::alloc::Global;
+use std::alloc::{AllocError, Global};
 use std::sync::Wait;
 use std::thread::Threads;
 
@@ -87,6 +87,14 @@ fn expect_no_defect(expect: Expect<'_>) -> Result<(), Failure> {
     expect_events(expect)
 }
 
+// The text of a failure, or none where there is none.
+fn text_of(alloc: Global, met: Result<(), Failure>) -> Result<String, AllocError> {
+    match met {
+        Ok(()) => Ok(String::new(alloc)),
+        Err(failure) => format!(in alloc; "{failure:?}"),
+    }
+}
+
 // How a run of the engine with a defect fails what is expected.
 fn failure<R: Threads + Wait + Sync>(
     rt: &R,
@@ -94,17 +102,15 @@ fn failure<R: Threads + Wait + Sync>(
     defect: Defect,
 ) -> Result<String, Failure> {
     let results = execute(rt, alloc, &broken_engine(alloc, Some(defect))?, 1, 16)?;
-    match expect_no_defect(Expect::of(alloc, results.recorded())) {
-        Ok(()) => Ok(String::new(alloc)),
-        Err(failure) => Ok(format!(in alloc; "{failure:?}")?),
-    }
+    let met = expect_no_defect(Expect::of(alloc, results.recorded()));
+    Ok(text_of(alloc, met)?)
 }
 
 #[test]
 fn each_defect_is_found(rt: HostRuntime) -> Result<(), Failure> {
     for (defect, begin) in FAILURES {
         let found = failure(&rt, rt.alloc(), defect)?;
-        assert!(rt; found.as_str().starts_with(begin), "{defect:?}: {found}");
+        assert!(rt; found.as_str().starts_with(begin), "{found}");
     }
     Ok(())
 }

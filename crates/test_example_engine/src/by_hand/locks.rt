@@ -1,8 +1,8 @@
 //! Two engines by hand whose tests declare one lock: one takes the lock, the other one forgets it.
 use engine_testkit::engine::Meeting;
 use engine_testkit::{
-    DType, Emitter, Failure, LockAnswer, LockMode, Need, UnitContext, UnitEngine, UnitFault,
-    UnitTable, Units, execute,
+    DType, Emitter, LockAnswer, LockMode, Need, UnitContext, UnitEngine, UnitFault, UnitTable,
+    Units, execute,
 };
 use std::alloc::Global;
 use std::sync::Wait;
@@ -24,20 +24,20 @@ impl Units for TestsThatMeet {
     }
 }
 
-// The engine of two tests that write `db` by what their table says, need this and wait so long.
-fn engine(
-    alloc: Global,
-    need: Need,
-    longest: Duration,
-) -> Result<UnitEngine<TestsThatMeet>, Failure> {
-    let mut table = UnitTable::new(alloc, ("engine", "e"), "e")?;
-    for value in ["1", "2"] {
-        let key = table.add(alloc, 0, ("t", value), value, DType::Test)?;
-        table.lock(alloc, key, "db", LockMode::ReadWrite)?;
-        table.add_unit(need)?;
-    }
+// Adds a test that writes `db` by what its table says, and needs this.
+fn add_test(alloc: Global, table: &mut UnitTable, value: &str, need: Need) -> Option<()> {
+    let key = table.add(alloc, 0, ("t", value), value, DType::Test).ok()?;
+    table.lock(alloc, key, "db", LockMode::ReadWrite).ok()?;
+    table.add_unit(need).ok()
+}
+
+// The engine of two such tests, each of which waits at most so long.
+fn engine(alloc: Global, need: Need, longest: Duration) -> Option<UnitEngine<TestsThatMeet>> {
+    let mut table = UnitTable::new(alloc, ("engine", "e"), "e").ok()?;
+    add_test(alloc, &mut table, "1", need)?;
+    add_test(alloc, &mut table, "2", need)?;
     let meeting = Meeting::new(longest);
-    Ok(UnitEngine::new(alloc, table, TestsThatMeet { meeting })?)
+    UnitEngine::new(alloc, table, TestsThatMeet { meeting }).ok()
 }
 
 // What a run by two workers says of the locks.
@@ -46,24 +46,21 @@ fn answer<R: Threads + Wait + Sync>(
     alloc: Global,
     need: Need,
     longest: Duration,
-) -> Result<LockAnswer, Failure> {
-    let engine = engine(alloc, need, longest)?;
-    let results = execute(rt, alloc, &engine, 2, 16)?;
-    Ok(results.locks(alloc)?)
+) -> Option<LockAnswer> {
+    let results = execute(rt, alloc, &engine(alloc, need, longest)?, 2, 16).ok()?;
+    results.locks(alloc).ok()
 }
 
 #[test]
-fn a_forgotten_lock_is_found(rt: HostRuntime) -> Result<(), Failure> {
-    let found = answer(&rt, rt.alloc(), Need::none(), Duration::from_secs(20))?;
-    assert!(rt; matches!(&found, LockAnswer::No(1, 2, name) if name.as_str() == "db"));
-    Ok(())
+fn a_forgotten_lock_is_found(rt: HostRuntime) {
+    let found = answer(&rt, rt.alloc(), Need::none(), Duration::from_secs(20));
+    assert!(rt; matches!(&found, Some(LockAnswer::No(1, 2, name)) if name.as_str() == "db"));
 }
 
 #[test]
-fn a_lock_that_is_taken(rt: HostRuntime) -> Result<(), Failure> {
+fn a_lock_that_is_taken(rt: HostRuntime) {
     for _ in 0..50 {
-        let found = answer(&rt, rt.alloc(), Need::of(0, 2), Duration::from_millis(1))?;
-        assert!(rt; matches!(&found, LockAnswer::Yes));
+        let found = answer(&rt, rt.alloc(), Need::of(0, 2), Duration::from_millis(1));
+        assert!(rt; matches!(&found, Some(LockAnswer::Yes)));
     }
-    Ok(())
 }

@@ -1,8 +1,9 @@
 //! An engine by hand of one unit, which emits an event of each kind.
 use crate::records::has_record;
 use engine_testkit::{
-    DType, Emitter, Failure, Need, UnitContext, UnitEngine, UnitFault, UnitTable, Units,
+    DType, Emitter, Failure, Need, TableFault, UnitContext, UnitEngine, UnitFault, UnitTable, Units,
 };
+use std::alloc::Global;
 
 #[derive(Drop)]
 struct EachKind;
@@ -38,13 +39,16 @@ E|1|1|7|finish|ok
 E|0|0|0|finish|ok
 ";
 
-#[test]
-fn an_event_of_each_kind(rt: HostRuntime) -> Result<(), Failure> {
-    let alloc = rt.alloc();
+fn engine(alloc: Global) -> Result<UnitEngine<EachKind>, TableFault> {
     let mut table = UnitTable::new(alloc, ("engine", "e"), "e")?;
     let _tests = table.add(alloc, 0, ("t", "1"), "tests", DType::Both)?;
     table.add_unit(Need::none())?;
-    let engine = UnitEngine::new(alloc, table, EachKind)?;
-    assert!(rt; has_record(&rt, alloc, &engine, RECORD)?);
+    Ok(UnitEngine::new(alloc, table, EachKind)?)
+}
+
+#[test]
+fn an_event_of_each_kind(rt: HostRuntime) -> Result<(), Failure> {
+    let engine = engine(rt.alloc())?;
+    assert!(rt; has_record(&rt, rt.alloc(), &engine, RECORD)?);
     Ok(())
 }
