@@ -2,7 +2,7 @@
 ghost use Rattle.std.specs.Prelude.{◌≡◌, ◌↔◌, IfOk};
 ghost use Rattle.engine_testkit.specs.Outcome.TheVariants.{Successful};
 
-use crate::cases::{Case, CaseTable, Function};
+use crate::cases::{Case, CaseTable, Function, failure_of};
 use engine_testkit::{
     Body, BuildFault, Context, ExecutionMode, Hierarchical, LockMode, Outcome, PlanNode, Reporter,
     Tests, UnitFault, build_plan,
@@ -14,11 +14,11 @@ fn outcome_of<F: Function>(alloc: Global, function: &F, case: Case) -> Result<Ou
     ensures { IfOk result (λ outcome.
         (outcome ≡ Successful) ↔ (F.value function.now case.argument ≡ case.expected)) }
 {
-    let (expected, actual) = (case.expected, function.value(case.argument));
-    if actual == expected {
+    let actual = function.value(case.argument);
+    if actual == case.expected {
         return Ok(Outcome::Successful);
     }
-    let message = format!(in alloc; "expected: <{expected}> but was: <{actual}>")?;
+    let message = failure_of(alloc, case.expected, actual)?;
     Outcome::failed(alloc, message.as_str())
 }
 

@@ -1,5 +1,9 @@
 //! Cases of a function, in tables.
-ghost use Rattle.std.specs.Prelude.{◌≡◌, ℕ};
+ghost use Rattle.std.specs.Prelude.{◌≡◌, ℕ, IfOk};
+ghost use Rattle.example_engine.specs.Running.{failure_text};
+
+use engine_testkit::Text;
+use std::alloc::{AllocError, Global};
 
 /// The function whose cases are run.
 pub trait Function {
@@ -25,4 +29,11 @@ pub struct CaseTable<'a> {
     pub cases: &'a [Case],
     /// Why the cases are skipped, if they are. JUnit: `Disabled`.
     pub disabled: Option<&'a str>,
+}
+
+/// Why a case fails: both values.
+pub(crate) fn failure_of(alloc: Global, expected: u64, actual: u64) -> Result<Text, AllocError>
+    ensures { IfOk result (λ text. text ≡ failure_text expected actual) }
+{
+    Ok(Text::from(format!(in alloc; "expected: <{expected}> but was: <{actual}>")?))
 }

@@ -91,11 +91,11 @@ impl Tests for DeskTests {
 // A test as a node of the plan.
 fn test_node(alloc: Global, test: Test) -> Result<PlanNode<'static>, AllocError> {
     let (group, name, planned, command) = test;
-    let kind = match command {
+    let dtype = match command {
         Rows(..) => DType::Both,
         _ => DType::Test,
     };
-    let node = PlanNode::new(alloc, kind, ("test", name), name).mode(ExecutionMode::Concurrent);
+    let node = PlanNode::new(alloc, dtype, ("test", name), name).mode(ExecutionMode::Concurrent);
     match planned {
         Reads => node.lock(group, LockMode::Read),
         Writes => node.lock(group, LockMode::ReadWrite),

@@ -9,6 +9,7 @@ use std::alloc::Global;
 pub struct EvenNumbers;
 
 impl Tests for EvenNumbers {
+    // The root has the key 0, and its tests have the next ones.
     fn run<C: Context>(&self, key: u32, test: &mut Reporter<C>) -> Result<Outcome, UnitFault> {
         let number = if key == 1 { 4 } else { 5 };
         if number % 2 == 0 {

@@ -6,23 +6,15 @@ ghost use Rattle.std.specs.Option.{option_copied};
 ghost use Rattle.engine_testkit.specs.Emitted.{Emitted, EmittedAs};
 ghost use Rattle.engine_testkit.specs.Events.{file_published, finished, reported, started};
 ghost use Rattle.engine_testkit.specs.Grown.{Grew};
-ghost use Rattle.example_engine.specs.Running.{outcome_of, failure_text, entry_of, path_of, last_events, IsCaseRun, AreCaseRuns, IsTableRun};
+ghost use Rattle.example_engine.specs.Running.{outcome_of, entry_of, path_of, last_events, IsCaseRun, AreCaseRuns, IsTableRun};
 
-use crate::cases::{Case, CaseTable, Function};
+use crate::cases::{Case, CaseTable, Function, failure_of};
 use engine_testkit::{
     DType, Outcome, Pairs, Segment, Sink, Text, UnitFault, finish, publish_file, register, report,
     skip, start,
 };
 use std::alloc::{AllocError, Global};
 use std::sync::Wait;
-
-// Why a case fails: both values.
-fn failure_of(alloc: Global, expected: u64, actual: u64) -> Result<Text, AllocError>
-    ensures { IfOk result (λ text. text ≡ failure_text expected actual) }
-{
-    let text = format!(in alloc; "expected: <{expected}> but was: <{actual}>")?;
-    Ok(Text::from(text))
-}
 
 // A case's outcome: a success, or a failure with both values.
 fn outcome_of<F: Function>(alloc: Global, function: &F, case: Case) -> Result<Outcome, AllocError>
