@@ -39,9 +39,10 @@ fn engine(alloc: Global) -> Result<UniqueId, IdFault> {
     UniqueId::of(alloc, &Segment::new(alloc, "engine", "e")?)
 }
 
-// The id with one segment more, which has this value.
+// The id with one segment more, which has this value, and is a copy.
 fn below(alloc: Global, id: &UniqueId, value: &str) -> Result<UniqueId, IdFault> {
-    id.append(alloc, &Segment::new(alloc, "t", value)?)
+    let segment = Segment::new(alloc, "t", value)?.try_clone()?;
+    id.append(alloc, &segment)
 }
 
 // An id of an engine and a test whose value has escapes.

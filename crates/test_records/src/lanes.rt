@@ -54,10 +54,18 @@ fn give_bytes(flags: &Flags) -> bool {
     flags.gather(&column, 0, &mut [1u8; 64]) == 3 && flags.count_byte(&column, 9) == 3
 }
 
+// Whether the flags and a copy of them give these bytes.
+fn are_copied(flags: &Flags) -> bool {
+    match flags.try_clone() {
+        Ok(copied) => give_bytes(flags) && give_bytes(&copied),
+        Err(_) => false,
+    }
+}
+
 #[test]
 fn bytes_at_flags(rt: HostRuntime) {
     let hold = match Flags::of_byte(rt.alloc(), &[9, 8, 9, 9], 9) {
-        Ok(flags) => give_bytes(&flags),
+        Ok(flags) => are_copied(&flags),
         Err(_) => false,
     };
     assert!(rt; hold);

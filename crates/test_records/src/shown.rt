@@ -5,7 +5,7 @@ use crate::pairs::one_pair;
 use std::alloc::Global;
 use test_support::{are_shown, is_debugged_as, is_shown, record_of, two_tests};
 use tk_events::{Kind, Status};
-use tk_ids::{IdFault, Segment, TableFault, UniqueId};
+use tk_ids::{IdFault, Segment, TableFault, Text, UniqueId};
 use tk_record::{Events, Mismatch, Record, Selection, Statistics};
 use tk_record_text::{LineFault, NodesFault, WriteFault};
 use tk_streams::Broken;
@@ -78,6 +78,8 @@ fn numbers(rt: HostRuntime) {
 
 #[test]
 fn debugged_ids(rt: HostRuntime) {
+    let text = Text::copy(rt.alloc(), "a\"b");
+    assert!(rt; is_debugged_as(rt.alloc(), &text, "Ok(\"a\\\"b\")"));
     let segment = Segment::new(rt.alloc(), "t", "a/b");
     assert!(rt; is_debugged_as(rt.alloc(), &segment, "Ok(Segment(\"t\", \"a/b\"))"));
     let id = UniqueId::read(rt.alloc(), "[t:a%2Fb]");
