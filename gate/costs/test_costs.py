@@ -315,6 +315,7 @@ MANY_MEMBERS, ONE_OF_MANY = f"all({','.join(2_000 * ['failed'])})", f"any({'star
 TEXT_ATOMS = ["skipped(x{})", "message(x{})", "failed(x{})", "aborted(x{})", "file(x{})", "entry(x{},v)"]
 MANY_TEXTS = f"all({','.join(TEXT_ATOMS[number % 6].format(number) for number in range(2_000))})"
 MANY_NAMES = f"all({','.join('name(x{0}),id(x{0})'.format(number) for number in range(1_000))})"
+FAILED_OF_MANY_NAMES = f"all(failed,{','.join(map('name(x{})'.format, range(1_999)))})"
 FIFTY_START, MOST_START, MANY_START = (count * "started " for count in (50, 99, 10_000))
 LAST_FAILS, TOO_EARLY, LAST_DIFFERS = 49 * "started " + "failed", "failed(boom)" + 49 * " started", 49 * "kind(skip) " + "failed"
 FIFTY_OF_THE_LAST, ONE_OF_THE_LAST = (" ".join(f"all(failed(boom),not(name({it})))" for it in range(count)) for count in (50, 1))
