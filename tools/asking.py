@@ -29,12 +29,18 @@ class Words(argparse.ArgumentParser):
         raise Failed(f"{message}; {self.format_usage()}")
 
 
-def ask(file: BinaryIO, *words: bytes) -> Tuple[int, bytes]:
-    """Asks a question about the record in a file; answers the status, 0 or 1, and what was written."""
+def call(file: BinaryIO, *words: bytes) -> "subprocess.CompletedProcess[bytes]":
+    """Calls the program with a file as its input; a signal that ends it is a fault of the script."""
     file.seek(0)
-    ran = subprocess.run([PROGRAM, b"ask", *words], stdin=file, stdout=subprocess.PIPE, stderr=subprocess.PIPE)
+    ran = subprocess.run([PROGRAM, *words], stdin=file, stdout=subprocess.PIPE, stderr=subprocess.PIPE)
     if ran.returncode < 0:
         raise Failed(f"{PROGRAM} was stopped by signal {-ran.returncode}")
+    return ran
+
+
+def ask(file: BinaryIO, *words: bytes) -> Tuple[int, bytes]:
+    """Asks a question about the record in a file; answers the status, 0 or 1, and what was written."""
+    ran = call(file, b"ask", *words)
     if ran.returncode > 1:
         raise Refused(ran.returncode, ran.stderr)
     return ran.returncode, ran.stdout

@@ -1,4 +1,4 @@
-"""What bin/ has of a tree, for `./testkit` and for whoever has no toolchain: the program, the jar of the listener for JUnit, and PROVED-WITH.
+"""What bin/ has of a tree, for `./testkit` and for whoever has no toolchain: the program, a Maven repository with the jar, and PROVED-WITH.
 
 PROVED-WITH says with which kit the program was proved, of which sources it was made, by one sum, and which compiler made the jar, and has
 the sum of each file, so that `sha256sum -c PROVED-WITH` checks them.
@@ -17,6 +17,8 @@ from asking import Failed, Refused
 
 PROGRAM = "testkit-x86_64-linux"
 PROVED_WITH = "PROVED-WITH"
+MAVEN = "maven"
+"""The folder of bin/ that has the layout of a Maven repository, in which the jar of the listener for JUnit stands once."""
 
 
 def shell(top: str, line: str) -> "subprocess.CompletedProcess[str]":
@@ -41,15 +43,33 @@ def built(top: str) -> bytes:
     return read(path)
 
 
-def jar_of(top: str) -> bytes:
-    """Returns the jar of the listener as it is in the work tree."""
+def sum_of_sources(top: str) -> str:
+    return shell(top, "sum_of_sources").stdout.strip()
+
+
+def leave_sum(top: str, sources: str) -> None:
+    """Leaves the sum beside the program, by which `./testkit` knows that it was built of these sources."""
+    Path(f"{top}/{checked.PROGRAM}.sum").write_text(shell(top, f"sum_of_build {checked.PROGRAM} {sources}").stdout, encoding="ascii")
+
+
+def sources_of(top: str) -> Dict[str, bytes]:
+    """Returns the files of the work tree of which the jar is made."""
     names = [os.path.relpath(f"{at}/{name}", top) for at, _, found in os.walk(f"{top}/{listener.SOURCES}") for name in found]
-    return listener.make_jar({name: read(f"{top}/{name}") for name in [*names, "LICENSE", "VERSION"]})
+    return {name: read(f"{top}/{name}") for name in [*names, "LICENSE", "VERSION", listener.POM]}
+
+
+def in_maven(top: str, jar: bytes) -> Dict[str, bytes]:
+    return {f"{MAVEN}/{name}": data for name, data in listener.in_maven(jar, sources_of(top)).items()}
+
+
+def there(top: str) -> List[str]:
+    """Returns the names of the files in bin/."""
+    return [os.path.relpath(f"{at}/{name}", f"{top}/bin") for at, _, found in os.walk(f"{top}/bin") for name in found]
 
 
 def proved_with(top: str, compiler: str, files: Dict[str, bytes]) -> bytes:
     kit = subprocess.run(["rt", "version"], stdin=subprocess.DEVNULL, stdout=subprocess.PIPE, text=True, check=True).stdout.splitlines()[0]
-    sources = shell(top, "sum_of_sources").stdout.strip()
+    sources = sum_of_sources(top)
     sums = "".join(f"{hashlib.sha256(data).hexdigest()}  {name}\n" for name, data in sorted(files.items()))
     return f"# kit {kit}\n# sources {sources}\n# {compiler}\n{sums}".encode()
 
@@ -60,22 +80,28 @@ def compared(name: str, data: bytes) -> bytes:
 
 
 def differing(top: str, compiler: str, jar: bytes) -> Dict[str, bytes]:
-    """Returns what was built, with a jar that this compiler made, as far as bin/ has it otherwise."""
-    files = {PROGRAM: built(top), listener.JAR: jar}
+    """Returns what was built, with a jar that this compiler made, as far as bin/ has it otherwise, and no bytes of what bin/ has besides."""
+    files = {PROGRAM: built(top), **in_maven(top, jar)}
     files[PROVED_WITH] = proved_with(top, compiler, files)
-    return {name: data for name, data in files.items() if compared(name, read(f"{top}/bin/{name}")) != compared(name, data)}
+    changed = {name: data for name, data in files.items() if compared(name, read(f"{top}/bin/{name}")) != compared(name, data)}
+    return {**changed, **{name: b"" for name in there(top) if name not in files}}
 
 
 def renew(top: str) -> Dict[str, bytes]:
-    """Writes the files of bin/ that differ, each once it is whole, and returns them."""
+    """Writes the files of bin/ that differ, each once it is whole, removes what it has besides, and returns both."""
     if not listener.can_be_made():
         raise Failed(listener.MISSING)
-    changed = differing(top, listener.compiler(), jar_of(top))
-    os.makedirs(f"{top}/bin", exist_ok=True)
+    changed = differing(top, listener.compiler(), listener.make_jar(sources_of(top), built(top)))
     for name, data in changed.items():
-        Path(f"{top}/bin/.{name}").write_bytes(data)
-        os.chmod(f"{top}/bin/.{name}", 0o755 if name == PROGRAM else 0o644)
-        os.replace(f"{top}/bin/.{name}", f"{top}/bin/{name}")
+        path = Path(f"{top}/bin/{name}")
+        if not data:
+            path.unlink()
+            continue
+        path.parent.mkdir(parents=True, exist_ok=True)
+        whole = path.with_name(f".{path.name}")
+        whole.write_bytes(data)
+        os.chmod(whole, 0o755 if name == PROGRAM else 0o644)
+        os.replace(whole, path)
     return changed
 
 
@@ -83,5 +109,7 @@ def faults(top: str) -> List[str]:
     """Says what is wrong with bin/. The jar is compared where the compiler that made it is here."""
     made_by = "".join(re.findall("^# (javac-.*)", read(f"{top}/bin/{PROVED_WITH}").decode(errors="replace"), re.MULTILINE))
     can_compare = listener.can_be_made() and listener.compiler() == made_by
-    changed = differing(top, made_by, jar_of(top) if can_compare else read(f"{top}/bin/{listener.JAR}"))
+    jars = [name for name in there(top) if re.search(r"/testkit-listener-[0-9.]*\.jar$", name)]
+    kept = b"".join(read(f"{top}/bin/{name}") for name in jars)
+    changed = differing(top, made_by, listener.make_jar(sources_of(top), built(top)) if can_compare else kept)
     return [f"bin/{name} is not what was built here" for name in changed]

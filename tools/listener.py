@@ -1,5 +1,6 @@
 """Makes the jar of the listener for JUnit. The same sources, compiled by the same JDK, give the same bytes."""
 
+import hashlib
 import io
 import os
 import re
@@ -11,18 +12,26 @@ from pathlib import Path
 from typing import Dict
 
 SOURCES = "examples/junit"
-LISTENER = ("RecordListener", "RecordLocks", "RecordFile", "ResultsWriter", "RecordAssert", "RecordSource", "ResultsAssert")
+RECORDING = ("RecordListener", "RecordLocks", "RecordFile", "RecordDescriptors", "RecordWorkers", "RecordText", "RecordLog")
+"""The listener, as it stands in a build without the jar."""
+LISTENER = (*RECORDING, "ResultsWriter", "RecordAssert", "RecordSource", "RecordProgram", "ResultsAssert", "RecordKit", "RecordTree")
 """What the jar has: the listener, what writes the results of EngineTestKit, and the assertions of a record."""
 SERVICES = {
     "META-INF/services/org.junit.platform.launcher.TestExecutionListener": b"testkit.RecordListener\n",
     "META-INF/services/org.junit.platform.launcher.PostDiscoveryFilter": b"testkit.RecordLocks\n",
 }
 """The files by which JUnit finds the listener, and the filter that has the locks."""
-JAR = "testkit-listener.jar"
+GROUP, ARTIFACT = "testkit", "testkit-listener"
+JAR = f"{ARTIFACT}.jar"
+POM = "tools/packaging/pom.xml"
 JUNIT = ("junit-platform-commons", "junit-platform-engine", "junit-platform-launcher", "opentest4j", "apiguardian-api")
 JARS = [f"/usr/share/java/{it}.jar" for it in JUNIT]
 """What the listener is compiled with: jars of Debian's package `junit5`."""
 MISSING = "without a JDK and JUnit (apt-get install junit5 default-jdk-headless) there is no jar"
+
+
+PROGRAM = "testkit/testkit-x86_64-linux"
+"""Where the jar has the program, beside which its sum stands."""
 
 
 class NotCompiled(Exception):
@@ -54,8 +63,13 @@ def classes(files: Dict[str, bytes]) -> Dict[str, bytes]:
         return {f"testkit/{it.name}": it.read_bytes() for it in sorted(Path(f"{room}/classes/testkit").iterdir())}
 
 
-def make_jar(files: Dict[str, bytes]) -> bytes:
-    """Returns the jar; `files` has the files of `SOURCES`, `LICENSE` and `VERSION`.
+def packed(program: bytes) -> Dict[str, bytes]:
+    """The program as a jar has it, with its sum."""
+    return {PROGRAM: program, f"{PROGRAM}.sha256": f"{hashlib.sha256(program).hexdigest()}\n".encode()}
+
+
+def make_jar(files: Dict[str, bytes], program: bytes) -> bytes:
+    """Returns the jar with this program; `files` has the files of `SOURCES`, `LICENSE` and `VERSION`.
 
     Its entries have no times of their own, and aren't compressed: others may compress to other bytes.
     """
@@ -66,7 +80,12 @@ def make_jar(files: Dict[str, bytes]) -> bytes:
         "META-INF/LICENSE": files["LICENSE"],
         **SERVICES,
         **classes(files),
+        **packed(program),
     }
+    return archive(entries)
+
+
+def archive(entries: Dict[str, bytes]) -> bytes:
     jar = io.BytesIO()
     with zipfile.ZipFile(jar, "w") as file:
         for name, data in entries.items():
@@ -74,3 +93,17 @@ def make_jar(files: Dict[str, bytes]) -> bytes:
             entry.create_system, entry.external_attr = 3, 0o100644 << 16
             file.writestr(entry, data)
     return jar.getvalue()
+
+
+def in_maven(jar: bytes, files: Dict[str, bytes]) -> Dict[str, bytes]:
+    """Returns the files of a Maven repository that has the jar, with its sources and with what Maven wants beside them.
+
+    The pom names no dependency: the JUnit of the build serves.
+    """
+    version = files["VERSION"].decode().strip()
+    place = f"{GROUP}/{ARTIFACT}/{version}/{ARTIFACT}-{version}"
+    sources = {f"testkit/{it}.java": files[f"{SOURCES}/testkit/{it}.java"] for it in LISTENER}
+    pom = files[POM].decode().format(group=GROUP, artifact=ARTIFACT, version=version).encode()
+    found = {f"{place}.jar": jar, f"{place}-sources.jar": archive({"META-INF/LICENSE": files["LICENSE"], **sources}), f"{place}.pom": pom}
+    sums = {f"{name}.{kind}": hashlib.new(kind, data).hexdigest().encode() for name, data in found.items() for kind in ("md5", "sha1")}
+    return {**found, **sums}

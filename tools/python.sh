@@ -1,12 +1,11 @@
-# Runs the script NAME.py of the command NAME beside it: each such command of tools/ reads this file.
+# Runs the script NAME.py beside a command NAME of tools/, whose path is in `command`: each such command reads this file.
 # (Python itself ends with 1, which no answer of these scripts means, where standard input is a folder.)
-command=$(realpath "$0")
 if [ -d /dev/stdin ]; then
-    echo "tools/$(basename "$command"): standard input is a folder" >&2
+    echo "tools/${command##*/}: standard input is a folder" >&2
     exit 70
 fi
 if ! python3 -ES -c "import sys; sys.exit(sys.version_info < (3, 7))" 2>/dev/null; then
-    echo "tools/$(basename "$command"): it needs Python 3.7 or later" >&2
+    echo "tools/${command##*/}: it needs Python 3.7 or later" >&2
     exit 70
 fi
 # (-E, since with PYTHONUNBUFFERED Python takes an output that a full device cuts short for a whole one.)

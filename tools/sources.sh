@@ -18,13 +18,18 @@ sources() {
         done
 }
 
-# Says whether a program was made after the last change of its sources: `is_new PROGRAM`.
+# Says whether a program was made after the last change of its sources, by their times: `is_new PROGRAM`.
 is_new() {
     [ -s "$1" ] && [ -x "$1" ] || return
-    newer=$(find crates.txt $(sources) -newer "$1" -print -quit) && [ -z "$newer" ]
+    newer=$(find -L crates.txt $(sources) -newer "$1" -print -quit) && [ -z "$newer" ]
 }
 
-# Prints one sum of the names and the bytes of all sources.
+# Prints one sum of the names and the bytes of all sources, also of those that links lead to, and of no file that an editor left.
 sum_of_sources() {
-    find crates.txt $(sources) -type f ! -name '.*' -print0 | LC_ALL=C sort -z | xargs -0 sha256sum | sha256sum | cut -d ' ' -f 1
+    find -L crates.txt $(sources) -type f ! -name '.*' ! -name '*~' -print0 | LC_ALL=C sort -z | xargs -0 sha256sum | sha256sum | cut -d ' ' -f 1
+}
+
+# Prints the sum of a program and of the sources of which it was made, which ./check leaves beside it: `sum_of_build PROGRAM SUM_OF_SOURCES`.
+sum_of_build() {
+    echo "$2 $(sha256sum <"$1" | cut -d ' ' -f 1)"
 }

@@ -6,13 +6,13 @@
 const WEIGHTS = { succeeded: 0, failed: 4, aborted: 2, skipped: 1, unfinished: 3 };
 const ENDINGS = Object.keys(WEIGHTS);
 const WEIGHT_OF_FOUND = 10;
+const LETTERS = { s: "succeeded", f: "failed", a: "aborted", k: "skipped", u: "unfinished" };
 const TYPES = { C: "container", T: "test", B: "container and test" };
 const UNITS = [[1e9, "s"], [1e6, "ms"], [1e3, "\u00b5s"], [1, "ns"]];
 
 // Sizes in pixels of the screen.
 const ROW = 20;
 const AXIS = 26;
-const LABELS = 84;
 const MARGIN = 8;
 const LANE_GAP = 10;
 const LEAST_WIDTH = 2;
@@ -30,25 +30,55 @@ const LEAST_SPAN = 1e-3;
 
 const element = (id) => document.getElementById(id);
 const data = JSON.parse(element("data").textContent);
+const LABELS = data.lanes.some((lane) => lane.thread) ? 250 : 84;
 const canvas = element("canvas");
 const context = canvas.getContext("2d");
 const chart = element("chart");
 
-// An execution as an object: the columns of its row, its number, and its descriptor.
-function executionOf(row, number) {
-  const it = { number, isFound: true };
-  data.columns.forEach((column, place) => { it[column] = row[place]; });
-  const [type, id, name, isDynamic, locks] = data.descriptors[it.descriptor];
-  return Object.assign(it, { type, id, name, isDynamic, locks });
+// What each number of a column is, which has the differences.
+function sums(column) {
+  let sum = 0;
+  return Float64Array.from(column, (difference) => { sum += difference; return sum; });
 }
 
-const executions = data.executions.map(executionOf);
-const inOrder = [...executions].sort((one, other) => one.begin - other.begin || one.row - other.row);
+// The executions are numbers, in the order of their begins; what belongs to each stands in columns.
+const columns = data.executions;
+const count = columns.ending.length;
+const descriptors = sums(columns.descriptor);
+const firsts = sums(columns.first);
+const starts = sums(columns.begin);
+const begins = starts.map((it, number) => it + (columns.parts[number] || [0, 0])[0]);
+const ends = starts.map((it, number) => it + columns.length[number] + (columns.parts[number] || [0, 0])[1]);
+const rowNumbers = sums(columns.row);
+const endings = Array.from(columns.ending, (letter) => LETTERS[letter]);
+const heights = new Float64Array(count).fill(1);
+for (const [number, height] of Object.entries(columns.height)) heights[number] = height;
+const isFound = new Uint8Array(count).fill(1);
+const numbers = Array.from(endings, (_, number) => number);
 const rows = [];
 const state = {
   left: 0, right: data.end, width: 0, height: 0,
   selected: null, sharers: [], pointed: null, gap: null, ending: "", text: "", isAsked: false, colors: {},
 };
+
+// Of a descriptor.
+const segmentOf = (descriptor) => data.descriptors.segment[descriptor];
+const locksOf = (descriptor) => data.descriptors.locks[descriptor] || [];
+
+function idOf(descriptor) {
+  const back = data.descriptors.above[descriptor];
+  return back ? `${idOf(descriptor - back)}/${segmentOf(descriptor)}` : segmentOf(descriptor);
+}
+
+function nameOf(descriptor) {
+  const segment = segmentOf(descriptor);
+  return data.descriptors.name[descriptor] === 0 ? segment.slice(segment.lastIndexOf(":") + 1, -1) : data.descriptors.name[descriptor];
+}
+
+// Of an execution.
+const typeOf = (it) => data.descriptors.type[descriptors[it]];
+const labelOf = (it) => nameOf(descriptors[it]) || idOf(descriptors[it]);
+const rowOf = (it) => rows[rowNumbers[it]];
 
 // Rows: each with its place, and its executions, none of which begins before the one before it ends.
 function fillRows() {
@@ -57,13 +87,13 @@ function fillRows() {
       rows.push({ top: AXIS + number * LANE_GAP + row * ROW, lane, items: [], highest: 1 });
     }
   });
-  for (const it of inOrder) {
-    rows[it.row].items.push(it);
-    rows[it.row].highest = Math.max(rows[it.row].highest, it.height);
+  for (const it of numbers) {
+    rowOf(it).items.push(it);
+    rowOf(it).highest = Math.max(rowOf(it).highest, heights[it]);
   }
 }
 
-const isFrame = (it) => it.type === "C" || it.height > 1;
+const isFrame = (it) => typeOf(it) === "C" || heights[it] > 1;
 const scale = () => (state.width - LABELS - MARGIN) / (state.right - state.left);
 const xOf = (place) => LABELS + (place - state.left) * scale();
 const placeOf = (x) => state.left + (x - LABELS) / scale();
@@ -75,7 +105,7 @@ function firstFrom(items, place) {
   let high = items.length;
   while (low < high) {
     const middle = (low + high) >> 1;
-    if (items[middle].end < place) low = middle + 1;
+    if (ends[items[middle]] < place) low = middle + 1;
     else high = middle;
   }
   return low;
@@ -83,8 +113,8 @@ function firstFrom(items, place) {
 
 // Where an execution is drawn: its left edge and its width, in whole pixels.
 function edges(it) {
-  const left = Math.round(Math.max(xOf(it.begin), LABELS - 20));
-  const right = Math.round(Math.min(xOf(it.end), state.width + 20));
+  const left = Math.round(Math.max(xOf(begins[it]), LABELS - 20));
+  const right = Math.round(Math.min(xOf(ends[it]), state.width + 20));
   return [left, Math.max(right - left, LEAST_WIDTH)];
 }
 
@@ -113,20 +143,24 @@ function lengthText(length) {
   return `${(nanoseconds / size).toLocaleString("en", { maximumFractionDigits: 3 })} ${unit}`;
 }
 
-const stampOf = (it, name) => BigInt(data.origin) + BigInt(it[name]);
+// Stamps less the least one.
+const startOf = (it) => BigInt(columns.start ? columns.start[it] : starts[it]);
+const stopOf = (it) => BigInt(columns.stop ? columns.stop[it] : starts[it] + columns.length[it]);
+const stampText = (stamp) => String(BigInt(data.origin) + stamp);
 
 function durationText(it) {
-  if (it.ending === "unfinished") return "it never finished";
-  return lengthText(data.times ? BigInt(it.stop) - BigInt(it.start) : it.last - it.first);
+  if (endings[it] === "unfinished") return "it never finished";
+  return lengthText(data.times ? stopOf(it) - startOf(it) : columns.events[it]);
 }
 
 function workerText(it) {
-  const isOther = it.worker_of_end !== null && it.worker_of_end !== it.worker;
-  const workers = isOther ? `${it.worker}, and ${it.worker_of_end} finished it` : String(it.worker);
-  return data.records.length > 1 ? `${workers}, of ${data.records[rows[it.row].lane.record]}` : workers;
+  const { lane } = rowOf(it);
+  const other = columns.worker_of_end[it];
+  const workers = other === undefined ? String(lane.worker) : `${lane.worker}, and ${other} finished it`;
+  return data.records.length > 1 ? `${workers}, of ${data.records[lane.record]}` : workers;
 }
 
-const laneText = (lane) => `${data.records.length > 1 ? `${lane.record + 1}: ` : ""}worker ${lane.worker}`;
+const laneText = (lane) => `${data.records.length > 1 ? `${lane.record + 1}: ` : ""}worker ${lane.worker}${lane.thread && `, ${lane.thread}`}`;
 
 // The class and the method of a test, as its id has them; the last segment of another id.
 function sourceText(id) {
@@ -138,12 +172,12 @@ function sourceText(id) {
   return classes.join(".") + (method ? `.${method[1].split("(")[0]}${inner}` : "");
 }
 
-const isTest = (it) => it.type !== "C" && it.ending !== "skipped";
+const isTest = (it) => typeOf(it) !== "C" && endings[it] !== "skipped";
 
 // The tests that ran at some time of a test, each with its worker.
 function besideText(it) {
-  const found = inOrder.filter((other) => other !== it && isTest(other) && other.begin < it.end && it.begin < other.end);
-  const lines = found.slice(0, MOST_BESIDE).map((other) => `${laneText(rows[other.row].lane)}: ${other.name || other.id}`);
+  const found = numbers.filter((other) => other !== it && begins[other] < ends[it] && begins[it] < ends[other] && isTest(other));
+  const lines = found.slice(0, MOST_BESIDE).map((other) => `${laneText(rowOf(other).lane)}: ${labelOf(other)}`);
   if (found.length > MOST_BESIDE) lines.push(`and ${counted(found.length - MOST_BESIDE, "other")}`);
   return lines.join("\n") || "none";
 }
@@ -153,29 +187,32 @@ const lockName = (lock) => lock.slice(2);
 
 // The others that hold a lock of an execution.
 function sharersOf(it) {
-  const names = new Set(it.locks.map(lockName));
-  return executions.filter((other) => other !== it && other.locks.some((lock) => names.has(lockName(lock))));
+  const names = new Set(locksOf(descriptors[it]).map(lockName));
+  return numbers.filter((other) => other !== it && locksOf(descriptors[other]).some((lock) => names.has(lockName(lock))));
 }
 
 // What is said of an execution that was chosen, and not of each that is pointed at.
 function furtherTexts(it) {
   const found = isTest(it) ? [["beside it", besideText(it)]] : [];
-  const entries = it.entries.map((pairs) => pairs.map((text, at) => (at % 2 ? `= ${text}` : text)).join(" "));
+  const entries = (columns.entries[it] || []).map((pairs) => pairs.map((text, at) => (at % 2 ? `= ${text}` : text)).join(" "));
   if (entries.length) found.push(["entries", entries.join("\n")]);
   return found;
 }
 
 // Terms and texts that describe an execution.
 function description(it) {
-  const ends = it.ending !== "unfinished";
-  const rowsOfIt = [["name", it.name], ["id", it.id], ["ending", it.ending]];
-  if (it.message !== null) rowsOfIt.push([it.ending === "skipped" ? "reason" : "message", it.message]);
+  const [descriptor, ending, message, first] = [descriptors[it], endings[it], columns.message[it], firsts[it]];
+  const isFinished = ending !== "unfinished";
+  const locks = locksOf(descriptor);
+  const rowsOfIt = [["name", nameOf(descriptor)], ["id", idOf(descriptor)], ["ending", ending]];
+  if (message !== undefined) rowsOfIt.push([ending === "skipped" ? "reason" : "message", message]);
   rowsOfIt.push(["duration", durationText(it)]);
   rowsOfIt.push(["worker", workerText(it)]);
-  rowsOfIt.push(["stamps", ends ? `${stampOf(it, "start")} to ${stampOf(it, "stop")}` : `from ${stampOf(it, "start")}`]);
-  rowsOfIt.push(["events", ends ? `${it.first} to ${it.last}` : `from ${it.first}`]);
-  rowsOfIt.push(["type", TYPES[it.type] + (it.isDynamic ? ", registered during the run" : "")]);
-  if (it.locks.length) rowsOfIt.push(["locks", it.locks.map((lock) => `${lockName(lock)} (${lock[0] === "R" ? "read" : "write"})`).join("\n")]);
+  const start = stampText(startOf(it));
+  rowsOfIt.push(["stamps", isFinished ? `${start} to ${stampText(stopOf(it))}` : `from ${start}`]);
+  rowsOfIt.push(["events", isFinished ? `${first} to ${first + columns.events[it]}` : `from ${first}`]);
+  rowsOfIt.push(["type", TYPES[typeOf(it)] + (data.descriptors.dynamic.includes(descriptor) ? ", registered during the run" : "")]);
+  if (locks.length) rowsOfIt.push(["locks", locks.map((lock) => `${lockName(lock)} (${lock[0] === "R" ? "read" : "write"})`).join("\n")]);
   return rowsOfIt;
 }
 
@@ -225,8 +262,8 @@ function draw() {
     if (row.top - top < state.height && row.top - top + row.highest * ROW > AXIS) drawRow(row, row.top - top);
   }
   for (const it of state.sharers) outline(it, state.colors.accent, 1);
-  if (state.pointed) outline(state.pointed, state.colors.text, 1);
-  if (state.selected) outline(state.selected, state.colors.accent, 2);
+  if (state.pointed !== null) outline(state.pointed, state.colors.text, 1);
+  if (state.selected !== null) outline(state.selected, state.colors.accent, 2);
   context.restore();
   document.body.dataset.drawn = "yes";
 }
@@ -241,7 +278,7 @@ function drawLanes() {
     context.fillRect(0, bottom + LANE_GAP / 2 - 1, state.width, 1);
     context.fillStyle = state.colors.text;
     context.textAlign = "left";
-    context.fillText(laneText(lane), 14, Math.min(Math.max(top, AXIS) + ROW / 2, bottom - ROW / 2));
+    context.fillText(laneText(lane), 14, Math.min(Math.max(top, AXIS) + ROW / 2, bottom - ROW / 2), LABELS - 20);
   }
 }
 
@@ -276,37 +313,40 @@ function drawAxis() {
   context.fillRect(0, AXIS - 1, state.width, 1);
 }
 
-const weightOf = (it) => WEIGHTS[it.ending] + (it.isFound ? WEIGHT_OF_FOUND : 0);
+const weightOf = (it) => WEIGHTS[endings[it]] + (isFound[it] ? WEIGHT_OF_FOUND : 0);
 
 // Draws a row: last its narrow bars, of which the one of most weight at each place is drawn, so that wide bars beside them hide none.
 function drawRow(row, top) {
-  const narrow = new Map();
+  const narrow = [];
+  let edge = null;
   const last = placeOf(state.width);
   for (let place = firstFrom(row.items, placeOf(LABELS - 20)); place < row.items.length; place += 1) {
     const it = row.items[place];
-    if (it.begin > last) break;
+    if (begins[it] > last) break;
     const [left, width] = edges(it);
     if (width <= LEAST_WIDTH) {
-      if (!narrow.has(left) || weightOf(it) > weightOf(narrow.get(left))) narrow.set(left, it);
+      if (left !== edge) narrow.push(it);
+      else if (weightOf(it) > weightOf(narrow[narrow.length - 1])) narrow[narrow.length - 1] = it;
+      edge = left;
     } else if (isFrame(it) && width >= LEAST_FRAME) {
       drawFrame(it, top, left, width);
     } else {
       drawBar(it, top);
     }
   }
-  for (const it of [...narrow.values()].sort((one, other) => weightOf(one) - weightOf(other))) drawBar(it, top);
+  for (const it of narrow.sort((one, other) => weightOf(one) - weightOf(other))) drawBar(it, top);
 }
 
 function drawBar(it, top) {
   const [left, width] = edges(it);
-  context.globalAlpha = it.isFound ? 1 : 0.2;
-  context.fillStyle = state.colors[it.ending];
+  context.globalAlpha = isFound[it] ? 1 : 0.2;
+  context.fillStyle = state.colors[endings[it]];
   context.fillRect(left, top + 1, width - (width > 4 ? 1 : 0), ROW - 4);
-  if (it.ending === "failed" && width > 4) {
+  if (endings[it] === "failed" && width > 4) {
     context.fillStyle = state.colors["on-bar"];
     context.fillRect(left, top + ROW - 5, width - 1, 2);
   }
-  if (it.ending === "unfinished" && width > 4) drawDashes(left, top, width);
+  if (endings[it] === "unfinished" && width > 4) drawDashes(left, top, width);
   label(it, left, top - 1, width, state.colors["on-bar"]);
   context.globalAlpha = 1;
 }
@@ -318,15 +358,16 @@ function drawDashes(left, top, width) {
 }
 
 function drawFrame(it, top, left, width) {
-  context.fillStyle = state.colors[it.ending];
-  context.globalAlpha = it.isFound ? 0.16 : 0.04;
-  context.fillRect(left, top + 1, width - 1, it.height * ROW - 2);
-  context.globalAlpha = it.isFound ? 1 : 0.2;
+  const height = heights[it] * ROW;
+  context.fillStyle = state.colors[endings[it]];
+  context.globalAlpha = isFound[it] ? 0.16 : 0.04;
+  context.fillRect(left, top + 1, width - 1, height - 2);
+  context.globalAlpha = isFound[it] ? 1 : 0.2;
   context.fillRect(left, top + 1, width - 1, 3);
-  context.strokeStyle = state.colors[it.ending];
+  context.strokeStyle = state.colors[endings[it]];
   context.lineWidth = 1;
-  context.strokeRect(left + 0.5, top + 1.5, width - 2, it.height * ROW - 3);
-  if (it.ending === "unfinished") drawDashes(left, top, width);
+  context.strokeRect(left + 0.5, top + 1.5, width - 2, height - 3);
+  if (endings[it] === "unfinished") drawDashes(left, top, width);
   label(it, left, top + 1, width, state.colors.text);
   context.globalAlpha = 1;
 }
@@ -337,8 +378,9 @@ function label(it, left, top, width, color) {
   const pixels = left + width - from - 4;
   const room = Math.floor(pixels / state.letter);
   if (room < 4) return;
-  const letters = Array.from(visible(it.name.slice(0, 2 * room)));
-  const isCut = letters.length > room || it.name.length > 2 * room;
+  const name = nameOf(descriptors[it]);
+  const letters = Array.from(visible(name.slice(0, 2 * room)));
+  const isCut = letters.length > room || name.length > 2 * room;
   context.fillStyle = color;
   context.textAlign = "left";
   context.fillText(isCut ? `${letters.slice(0, room - 1).join("")}\u2026` : letters.join(""), from, top + ROW / 2, pixels);
@@ -346,21 +388,21 @@ function label(it, left, top, width, color) {
 
 function outline(it, color, width) {
   const [left, wide] = edges(it);
-  const top = rows[it.row].top - chart.scrollTop;
+  const top = rowOf(it).top - chart.scrollTop;
   context.strokeStyle = color;
   context.lineWidth = width;
-  context.strokeRect(left - 0.5, top + 0.5, wide + 1, (isFrame(it) ? it.height : 1) * ROW - 1);
+  context.strokeRect(left - 0.5, top + 0.5, wide + 1, (isFrame(it) ? heights[it] : 1) * ROW - 1);
 }
 
 // Marks the gap before an execution that was chosen in the list.
 function drawGap(top) {
   if (!state.gap) return;
   const { it, length } = state.gap;
-  const lane = rows[it.row].lane;
-  const left = Math.max(xOf(it.begin - Number(length)), LABELS);
+  const { lane } = rowOf(it);
+  const left = Math.max(xOf(begins[it] - Number(length)), LABELS);
   context.globalAlpha = 0.25;
   context.fillStyle = state.colors.accent;
-  context.fillRect(left, rows[lane.row].top - top, Math.max(xOf(it.begin) - left, 1), lane.rows * ROW);
+  context.fillRect(left, rows[lane.row].top - top, Math.max(xOf(begins[it]) - left, 1), lane.rows * ROW);
   context.globalAlpha = 1;
 }
 
@@ -375,14 +417,14 @@ function barAt(row, x) {
   let best = null;
   for (let place = firstFrom(row.items, placeOf(x - NEAR)); place < row.items.length; place += 1) {
     const it = row.items[place];
-    if (it.begin > last) break;
+    if (begins[it] > last) break;
     const [left, width] = edges(it);
     const distance = Math.max(left - x, x - left - width, 0);
     const layer = layerOf(it, width);
     if (distance > NEAR) continue;
     if (!best || distance < best.distance || (distance === best.distance && layer > best.layer)) best = { it, distance, layer };
   }
-  return best && best.it;
+  return best ? best.it : null;
 }
 
 function executionAt(x, y) {
@@ -391,10 +433,10 @@ function executionAt(x, y) {
   const number = rows.findIndex((row) => row.top <= height && height < row.top + ROW);
   if (number < 0) return null;
   const bar = barAt(rows[number], x);
-  if (bar) return bar;
+  if (bar !== null) return bar;
   for (let row = number - 1; row >= rows[number].lane.row; row -= 1) {
     const frame = barAt(rows[row], x);
-    if (frame && row + frame.height > number) return frame;
+    if (frame !== null && row + heights[frame] > number) return frame;
   }
   return null;
 }
@@ -423,8 +465,8 @@ function point(it, x, y) {
   if (it !== state.pointed) ask();
   state.pointed = it;
   const tip = element("tip");
-  tip.hidden = !it;
-  if (!it) return;
+  tip.hidden = it === null;
+  if (it === null) return;
   describe(tip, it, MOST_IN_TIP);
   const box = tip.getBoundingClientRect();
   tip.style.left = `${Math.max(4, Math.min(x + 14, window.innerWidth - box.width - 4))}px`;
@@ -433,9 +475,9 @@ function point(it, x, y) {
 
 function select(it) {
   state.selected = it;
-  state.sharers = it ? sharersOf(it) : [];
+  state.sharers = it === null ? [] : sharersOf(it);
   state.gap = null;
-  if (it) describe(element("details"), it, MOST_IN_DETAILS, furtherTexts(it));
+  if (it !== null) describe(element("details"), it, MOST_IN_DETAILS, furtherTexts(it));
   else element("details").replaceChildren(help);
   ask();
 }
@@ -443,13 +485,14 @@ function select(it) {
 // Selects an execution and brings it into view, closer where it would be too narrow to see.
 function goTo(it) {
   select(it);
-  const length = it.end - it.begin;
-  const middle = (it.begin + it.end) / 2;
+  const [begin, end] = [begins[it], ends[it]];
+  const length = end - begin;
+  const middle = (begin + end) / 2;
   let span = state.right - state.left;
   if (length * scale() < 2 * LEAST_WIDTH) span = Math.max(length * 20, span / 50);
   if (length > span) span = length * 1.1;
-  if (span !== state.right - state.left || it.begin < state.left || it.end > state.right) show(middle - span / 2, middle + span / 2);
-  const top = rows[it.row].top;
+  if (span !== state.right - state.left || begin < state.left || end > state.right) show(middle - span / 2, middle + span / 2);
+  const { top } = rowOf(it);
   if (top < chart.scrollTop + AXIS || top + ROW > chart.scrollTop + state.height) chart.scrollTop = top - state.height / 2;
 }
 
@@ -457,21 +500,18 @@ function goTo(it) {
 
 function find() {
   const text = state.text.toLowerCase();
-  const isFoundDescriptor = data.descriptors.map(
-    ([, id, name, , locks]) => [id, name, ...locks.map(lockName)].some((it) => it.toLowerCase().includes(text)),
+  const isFoundDescriptor = data.descriptors.segment.map(
+    (_, it) => [idOf(it), nameOf(it), ...locksOf(it).map(lockName)].some((part) => part.toLowerCase().includes(text)),
   );
-  let count = 0;
-  for (const it of executions) {
-    it.isFound = isFoundDescriptor[it.descriptor] && (!state.ending || it.ending === state.ending);
-    count += it.isFound;
-  }
-  element("found").textContent = state.text || state.ending ? `${count.toLocaleString("en")} found` : "";
+  for (const it of numbers) isFound[it] = isFoundDescriptor[descriptors[it]] && (!state.ending || endings[it] === state.ending);
+  const found = isFound.reduce((sum, it) => sum + it, 0);
+  element("found").textContent = state.text || state.ending ? `${found.toLocaleString("en")} found` : "";
   ask();
 }
 
 // Goes to the next or the previous of those that were found, in the order of their begins.
 function step(by, isWanted = () => true) {
-  const among = inOrder.filter((it) => it.isFound && isWanted(it));
+  const among = numbers.filter((it) => isFound[it] && isWanted(it));
   if (!among.length) return;
   const at = among.indexOf(state.selected);
   goTo(among[at < 0 ? (by > 0 ? 0 : among.length - 1) : (at + by + among.length) % among.length]);
@@ -480,14 +520,14 @@ function step(by, isWanted = () => true) {
 // Goes to the execution of the next or previous row that is nearest.
 function stepRow(by) {
   const it = state.selected;
-  if (!it) {
+  if (it === null) {
     step(1);
     return;
   }
-  for (let row = it.row + by; row >= 0 && row < rows.length; row += by) {
+  for (let row = rowNumbers[it] + by; row >= 0 && row < rows.length; row += by) {
     const items = rows[row].items;
     if (items.length) {
-      goTo(items[Math.min(firstFrom(items, it.begin), items.length - 1)]);
+      goTo(items[Math.min(firstFrom(items, begins[it]), items.length - 1)]);
       return;
     }
   }
@@ -505,12 +545,12 @@ function button(parent, act, ...parts) {
 
 function fillLegend() {
   for (const ending of ENDINGS) {
-    const count = executions.filter((it) => it.ending === ending).length;
+    const found = endings.filter((it) => it === ending).length;
     const made = button(element("legend"), () => {
       state.ending = state.ending === ending ? "" : ending;
       for (const it of element("legend").children) it.setAttribute("aria-pressed", String(it.dataset.ending === state.ending));
       find();
-    }, [`swatch ${ending}`, ""], ["", `${ending} ${count.toLocaleString("en")}`]);
+    }, [`swatch ${ending}`, ""], ["", `${ending} ${found.toLocaleString("en")}`]);
     made.dataset.ending = ending;
     made.setAttribute("aria-pressed", "false");
   }
@@ -518,12 +558,12 @@ function fillLegend() {
 
 function fillList(list, listed, act) {
   list.replaceChildren();
-  for (const [number, length] of listed) {
-    const it = executions[number];
+  for (const [it, length] of listed) {
+    const [name, id] = [nameOf(descriptors[it]), idOf(descriptors[it])];
     const made = document.createElement("li");
-    const parts = [["length", lengthText(BigInt(length))], [`swatch ${it.ending}`, ""], ["name", visible(cut(it.name, MOST_IN_TIP))]];
-    parts.push(["source", visible(cut(sourceText(it.id), MOST_IN_TIP))]);
-    button(made, () => act(it, length), ...parts).title = visible(cut(it.id, MOST_IN_TIP));
+    const parts = [["length", lengthText(BigInt(length))], [`swatch ${endings[it]}`, ""], ["name", visible(cut(name, MOST_IN_TIP))]];
+    parts.push(["source", visible(cut(sourceText(id), MOST_IN_TIP))]);
+    button(made, () => act(it, length), ...parts).title = visible(cut(id, MOST_IN_TIP));
     list.append(made);
   }
   if (!listed.length) list.append(Object.assign(document.createElement("li"), { textContent: "none" }));
@@ -534,18 +574,21 @@ function fillLists() {
   fillList(element("gaps"), data.gaps, (it, length) => {
     goTo(it);
     const gap = Number(length);
-    if (it.begin - gap < state.left) show(it.begin - gap * 1.2, Math.max(it.end, it.begin + gap * 0.5));
+    if (begins[it] - gap < state.left) show(begins[it] - gap * 1.2, Math.max(ends[it], begins[it] + gap * 0.5));
     state.gap = { it, length };
   });
 }
 
 function fillHeader() {
-  const tests = executions.filter((it) => it.type !== "C");
-  const parts = [counted(executions.length, "execution"), counted(data.lanes.length, "worker"), counted(data.events, "event")];
-  const results = `${counted(tests.length, "test")}, ${tests.filter((it) => it.ending === "failed").length.toLocaleString("en")} failed`;
+  const tests = numbers.filter((it) => typeOf(it) !== "C");
+  const parts = [counted(count, "execution"), counted(data.lanes.length, "worker"), counted(data.events, "event")];
+  const results = `${counted(tests.length, "test")}, ${tests.filter((it) => endings[it] === "failed").length.toLocaleString("en")} failed`;
   const records = data.records.length > 1 ? `; ${data.records.map((name, number) => `${number + 1}: ${name}`).join(", ")}` : "";
   element("summary").textContent =
     `${results}; ${parts.join(", ")}; ${counted(data.not_run, "descriptor")} without an execution${visible(cut(records, MOST_IN_TIP))}`;
+  const cuts = data.cuts.map((cut, number) => cut && `${data.records[number] || "The record"} is ${cut}`).filter((it) => it);
+  element("cut").hidden = !cuts.length;
+  element("cut").textContent = visible(`${cuts.join("; ")}: what stands before that is drawn.`);
   element("note").hidden = data.times;
   element("note").textContent =
     "Positions in the record stand for stamps: the stamps are no times, since all are equal, or one is below an earlier one of its worker "
@@ -612,7 +655,7 @@ const KEYS = {
   Escape: () => select(null),
 };
 
-const inLane = (it) => !state.selected || rows[it.row].lane === rows[state.selected.row].lane;
+const inLane = (it) => state.selected === null || rowOf(it).lane === rowOf(state.selected).lane;
 
 function pressKey(event) {
   const act = KEYS[event.key];

@@ -6,14 +6,15 @@ one that never finishes has no end, and a skip is an instant. Executions of a wo
 of threads that share it, stand in threads of their own. UNIT is what a stamp counts, microseconds where it isn't given; where stamps are
 no times, positions in the records stand for microseconds.
 
-The program is asked as by `tools/timeline`, with the same statuses.
+The program is asked as by `tools/timeline`, with the same statuses. Of a record that is cut off the name of the process says so.
 """
 
 import json
 import os
 import sys
+from bisect import bisect_left, insort
 from collections import defaultdict
-from itertools import count
+from heapq import heappop, heappush
 from typing import Dict, Iterator, List, Sequence, Tuple
 
 sys.path.insert(0, os.path.dirname(os.path.realpath(__file__)))
@@ -44,20 +45,48 @@ def arguments_of(record: Record, it: Execution) -> Dict[str, object]:
     return found
 
 
+class Threads:
+    """The threads of a worker, each with the ends of its slices that are open, of which each covers the next."""
+
+    def __init__(self) -> None:
+        self.ends: List[List[int]] = []
+        self.free: List[int] = []
+        self.inner: List[Tuple[int, int]] = []
+        """The innermost end of each thread that has one, in increasing order, with the thread's number."""
+
+    def take(self, begin: int, end: int) -> int:
+        """The thread for a slice, none of which began later: that of the slice that covers it most closely, or the first one that is free."""
+        while self.inner and self.inner[0][0] <= begin:
+            number = self.inner.pop(0)[1]
+            self.ends[number].pop()
+            self._leave(number)
+        at = bisect_left(self.inner, (end, -1))
+        if at < len(self.inner):
+            number = self.inner.pop(at)[1]
+        elif self.free:
+            number = heappop(self.free)
+        else:
+            number = len(self.ends)
+            self.ends.append([])
+        self.ends[number].append(end)
+        insort(self.inner, (end, number))
+        return number
+
+    def _leave(self, number: int) -> None:
+        if self.ends[number]:
+            insort(self.inner, (self.ends[number][-1], number))
+        else:
+            heappush(self.free, number)
+
+
 def slices_of(record: Record, nanoseconds: int) -> Iterator[Dict[str, object]]:
     """The executions, those of each worker in the order of their begins and an outer one before those within it."""
     origin, latest = min(record.stamps, default=0), max(record.stamps, default=0)
-    open_ends: Dict[Tuple[int, int], List[int]] = defaultdict(list)
+    threads: Dict[int, Threads] = defaultdict(Threads)
     spans = [(it, record.stamps[it.first], latest if it.last is None else record.stamps[it.last]) for it in record.executions]
     for it, begin, end in sorted(spans, key=lambda span: (span[1], -span[2], span[0].first)):
         worker = record.events[it.first].worker
-        for beside in count():
-            ends = open_ends[worker, beside]
-            while ends and ends[-1] <= begin:
-                ends.pop()
-            if not ends or end <= ends[-1]:
-                break
-        ends.append(end)
+        beside = threads[worker].take(begin, end)
         descriptor = record.descriptors[it.key]
         found = {"name": descriptor.name or descriptor.id, "cat": it.ending, "pid": worker // NUMBERS, "tid": worker % NUMBERS + MOST_WORKERS * beside}
         found["ts"] = (begin - origin) * nanoseconds / MICROSECOND
@@ -74,7 +103,7 @@ def trace_of(record: Record, names: Sequence[str], nanoseconds: int) -> List[Dic
     """The events of the trace: the names of processes and threads, then the executions."""
     slices = list(slices_of(record, nanoseconds if record.has_times else MICROSECOND))
     found: List[Dict[str, object]] = []
-    for number, name in enumerate(names or ["record"]):
+    for number, name in enumerate(names):
         found.append({"ph": "M", "name": "process_name", "pid": number, "tid": 0, "args": {"name": name}})
     for process, thread in sorted({(it["pid"], it["tid"]) for it in slices}):
         beside, worker = divmod(thread, MOST_WORKERS)
@@ -85,8 +114,9 @@ def trace_of(record: Record, names: Sequence[str], nanoseconds: int) -> List[Dic
 
 def main(words: Sequence[str]) -> int:
     read = read_words(words, "tools/trace", "Writes runs as a trace of Chrome: tools/trace RECORD .. > run.json.")
-    texts, names = read_records(read.records)
-    lines = map(json.dumps, trace_of(Record(*texts), names, UNITS.get(read.unit, MICROSECOND)))
+    record, names, cuts = read_records(read.records)
+    processes = [f"{name} ({cut})" if cut else name for name, cut in zip(names or ["record"], cuts)]
+    lines = map(json.dumps, trace_of(record, processes, UNITS.get(read.unit, MICROSECOND)))
     print('{"traceEvents":[\n' + ",\n".join(lines) + "\n]}", flush=True)
     return 0
 

@@ -8,7 +8,7 @@ LATEST = 2
 """The version of record texts without locks that is written, and the highest of replay texts and plans that is read."""
 
 LOCK_VERSION = 3
-"""The version of record texts that is written where there are locks, and the highest that is read."""
+"""The version of record texts with locks and an end line: the highest that is read, written where there are locks and by `run --record` and `recover`."""
 
 VERSIONS = tuple(range(1, LATEST + 1))
 """The versions of replay texts and plans that are read."""

@@ -154,7 +154,18 @@ def record_of_tests(name: str, *parts: str, count: int = 65_000) -> bytes:
 def held(locks: Iterable[Tuple[int, str, str]], count: int, name: str, *parts: str) -> bytes:
     """A record of tests of an engine in which keys hold locks, each with its mode."""
     lines = "".join(f"L|{key}|{mode}|{lock}\n" for key, mode, lock in locks)
-    return record_of_tests(name, lines, *parts, count=count).replace(b"testkit-record|2", b"testkit-record|3")
+    return ended(record_of_tests(name, lines, *parts, count=count).replace(b"testkit-record|2", b"testkit-record|3"))
+
+
+def ended(text: bytes) -> bytes:
+    """A text of version 3 with its end line."""
+    return text + b"Z|%d\n" % text.count(b"\nE|")
+
+
+def extended(record: bytes, more: str) -> bytes:
+    """A record of version 3 of `SIZE` bytes at most, with as many copies of some events after its own as it has room for."""
+    front = record.decode().rpartition("Z|")[0]
+    return ended(repeated(front, more, "Z|1000000\n")().rpartition(b"Z|")[0])
 
 
 def beside(keys: Iterable[int]) -> str:
@@ -170,17 +181,12 @@ def apart_from_the_last(count: int) -> str:
 EVENTS = repeated(RECORD, "E|1|0|7|start\nE|1|0|8|finish|ok\n")
 FAILING = repeated(RECORD, "E|1|0|7|start\nE|1|0|8|finish|ok\n", "E|1|0|9|finish|fail|boom\n")
 FAILURES = repeated(RECORD, "E|1|0|7|start\nE|1|0|8|finish|ok\n", "E|1|0|9|finish|fail|boom\n" * 1_000)
-STARTS = repeated(RECORD, "E|1|0|7|start\n")
-NEVER_FINISHED = repeated(RECORD + 2 * "E|1|0|7|start\nE|1|0|8|finish|ok\n", "E|1|0|7|start\n")
 LONG_REASON, REASONS = repeated(RECORD + "E|1|0|7|skip|", "x", "\n"), repeated(RECORD, "E|1|0|7|skip|a reason of some length\n")
 SHORT_STARTS, SHORT_FAILURES = (repeated(RECORD, f"E|1|0|{7 * 10**17}|{tail}\n") for tail in ("start", "finish|fail|boom"))
 LONG_STARTS, LONG_FAILURES = (repeated(RECORD, f"E|1|0|{2**64 - 1}|{tail}\n") for tail in ("start", "finish|fail|boom"))
 """Entries with stamps of 18 digits, and of 20, which are read digit by digit with a check of each."""
-REPORTS = repeated(f"{RECORD}E|1|0|7|start\n", "E|1|0|7|report\n", "E|1|0|8|finish|ok\n")
-ESCAPES = repeated(RECORD + "E|1|0|7|skip|", "\\p", "\n")
 LONG_NUMBER, LONG_ID = repeated(RECORD + "E|", "1", "|0|7|start\n"), repeated(RECORD + "N|T|[engine:", "e", "]|e\n")
 NO_LINE_FEED, BAD_LINE_FIRST = repeated(RECORD + "E|1|0|7|skip|", "x"), repeated(RECORD + "X\n", "x")
-TWICE_AS_LARGE = lambda: EVENTS() + b"\n" * SIZE
 ONE_DYNAMIC_KEY = repeated(OF_A_CONTAINER + f"E|1|65536|0|dynamic|T|[engine:e]/[t:{'v' * 4_000}]|n\n", "E|1|65536|7|start\n")
 OVERLAPPING = repeated(
     f"{RECORD}N|T|[engine:f]|f\n",
@@ -188,18 +194,14 @@ OVERLAPPING = repeated(
     "E|1|0|9|start\nE|1|1|9|start\nE|1|0|9|finish|ok\nE|1|1|9|finish|ok\n",
 )
 ONE_EVENT = lambda: (RECORD + "E|1|0|7|start\n").encode()
-TWENTY_THOUSAND_EVENTS = lambda: (RECORD + 10_000 * "E|1|0|7|start\nE|1|0|8|finish|ok\n").encode()
 FIFTY_SKIPS = lambda: (RECORD + 50 * f"E|1|0|7|skip|{'x' * 300_000}\n").encode()
 MANY_PAIRS = lambda: (RECORD + "E|1|0|0|report" + "".join(f"|{number:07}|v" for number in range(1_500_000)) + "\n").encode()
 LONG_IDS = lambda: (OF_A_CONTAINER + "".join(f"N|T|[engine:e]/[t:{number:04}{'v' * 4_000}]|n\n" for number in range(4_000))).encode()
-DESCRIPTORS = lambda: record_of_tests("n" * 200)
 TESTS_OF_AN_ENGINE = lambda: record_of_tests("n" * 170, BEGIN, events("start", "finish|ok"), END)
-FOUR_RUNS_OF_EACH = lambda: record_of_tests("n", BEGIN, 4 * events("start", "finish|ok", keys=range(1, 2_501)), END, count=2_500)
-TESTS_SIDE_BY_SIDE = lambda: record_of_tests("n", BEGIN, END, beside(range(1, 65_001)))
 A_TEST_STILL_RUNS = lambda: record_of_tests("n", BEGIN, events("start"), events("finish|ok", keys=range(1, 65_000)), END)
 ONE_GLOBAL = lambda: held([(60_000, "W", "global")], 60_000, "n" * 200, apart_from_the_last(60_000))
-HELD_AGAIN_AND_AGAIN = lambda: repeated(held([(1, "W", "db")], 1, "n").decode(), events("start", "finish|ok", keys=[1]))()
-SMALL_REPLAY = lambda: b"testkit-replay|2\nW|1\nN|T|[engine:e]|e\nE|1|0|7|start\nS|1|1|t|t\n"
+LOCKS_READ_BY_ONE, LOCKS_WRITTEN_BY_ONE = lambda: locks_of_one("R"), lambda: locks_of_one("W")
+HELD_AGAIN_AND_AGAIN = lambda: extended(held([(1, "W", "db")], 1, "n"), events("start", "finish|ok", keys=[1]))
 
 
 def steps() -> bytes:
@@ -256,8 +258,13 @@ def locks_above() -> bytes:
 
 def held_and_never_finished() -> bytes:
     """Two tests that write a lock one after the other, and starts of the second that never finish."""
-    begin = held([(1, "W", "db"), (2, "W", "db")], 2, "n", events("start", "finish|ok", keys=[1, 2])).decode()
-    return repeated(begin, "E|1|2|7|start\n")()
+    begin = held([(1, "W", "db"), (2, "W", "db")], 2, "n", events("start", "finish|ok", keys=[1, 2]))
+    return extended(begin, "E|1|2|7|start\n")
+
+
+def locks_of_one(mode: str) -> bytes:
+    """A test that holds 20,000 locks in this mode, and runs 20,000 times."""
+    return held(((1, mode, f"l{number:05}") for number in range(20_000)), 2, "n", 20_000 * events("start", "finish|ok", keys=[1]))
 
 
 def waiting_replay() -> bytes:
@@ -297,25 +304,17 @@ def one_long_unit() -> bytes:
 
 
 ENTRIES_AND_A_FAULT, ENTRIES_OF_TWO_PAIRS = lambda: plan_of_entries(',"files":[""]'), lambda: plan_of_entries(entry='[["a","%d"],["b",""]]')
-LONG_NAME = lambda: plan(node("").replace('"n"', f'"{"n" * 15 * KIB * KIB}"'))
 LONG_TEXTS = ("x" * 16_000_000, "\\n" * 8_000_000)
 LONG_TEXT, LONG_TEXT_WITH_ESCAPES = (lambda it=it: plan(node(f',"entries":[[["k","{it}"]]]')) for it in LONG_TEXTS)
 NODES, DYNAMIC_NODES = lambda: plan_of_nodes(65_000, ""), lambda: plan_of_nodes(65_000, "", "dynamic")
 TWO_NODES, ONE_DYNAMIC_NODE = lambda: plan_of_nodes(2, ""), lambda: plan_of_nodes(1, "", "dynamic")
-MESSAGES = lambda: plan_of_nodes(50_000, f',"result":{{"status":"failed","message":"{"m" * 100}"}}')
-UNITS = lambda: plan_of_nodes(65_000, ',"mode":"concurrent"')
-UNITS_WITH_ENTRIES = lambda: plan_of_nodes(5_000, f',"mode":"concurrent","entries":[{",".join(200 * ["[]"])}]')
 LOCK_AND_ENTRIES = ',"mode":"concurrent","locks":[{"key":"db"}],"entries":[' + ",".join(2_000 * ['[["k","v"]]']) + "]"
 ONE_LOCK = lambda: plan_of_nodes(100, LOCK_AND_ENTRIES)
 """100 units that all write one resource, each with many entries."""
 
 BAD = "testkit: line 3 is bad\n"
 RARE, OF_NO_COLUMN = 1_000 * "all(failed(boom),name(e)) ", 1_000 * "any(name(x),name(e)) "
-MANY_MEMBERS, ONE_OF_MANY = f"all({','.join(2_000 * ['failed'])})", f"any({'started,' * 12_000}started)"
-TEXT_ATOMS = ["skipped(x{})", "message(x{})", "failed(x{})", "aborted(x{})", "file(x{})", "entry(x{},v)"]
-MANY_TEXTS = f"all({','.join(TEXT_ATOMS[number % 6].format(number) for number in range(2_000))})"
-MANY_NAMES = f"all({','.join('name(x{0}),id(x{0})'.format(number) for number in range(1_000))})"
-FAILED_OF_MANY_NAMES = f"all(failed,{','.join(map('name(x{})'.format, range(1_999)))})"
+ONE_OF_MANY, FAILED_LONG_TEXT = f"any({'started,' * 12_000}started)", f"failed({'x' * 16_000})"
 FIFTY_START, MOST_START, MANY_START = (count * "started " for count in (50, 99, 10_000))
 LAST_FAILS, TOO_EARLY, LAST_DIFFERS = 49 * "started " + "failed", "failed(boom)" + 49 * " started", 49 * "kind(skip) " + "failed"
 FIFTY_OF_THE_LAST, ONE_OF_THE_LAST = (" ".join(f"all(failed(boom),not(name({it})))" for it in range(count)) for count in (50, 1))
@@ -468,19 +467,8 @@ begun, thread = time.monotonic(), threading.Thread(target=int)
 thread.start()
 thread.join()
 print('xx' if time.monotonic() - begun > 1.4 else 'early')"""
-EXAMPLES = [
-    example("little of all", [*DD, "bs=64K"], ""),
-    example("many reads", [*DD, "bs=4K"], "reads 490, and may be 40"),
-    example("many writes", [*DD, "ibs=64K", "obs=4K"], "writes 489, and may be 40"),
-    example("much memory", [*DD, "bs=3M"], ", and may be 2000"),
+EXAMPLES = rows(f"{TOP}/gate/costs/examples.rows", globals()) + [
     example("little memory", [*DD, "bs=64K"], ", and has to be 1000", least_memory=1_000),
-    of_python("memory that is given back", "for _ in range(100): bytes(1_000_000)\nprint('xx')", "", Costs(9, 50_000, 10**6, 40, 40)),
-    of_python("many requests", "print('xx')", "and may be 200"),
-    of_shell("many seconds", "while :; do :; done", "status -"),
-    of_shell("a wait", "exec sleep 1", "clock", Costs(0.4, 2_000, 200, 40, 40, 0.5)),
-    of_shell("another status", "exit 1", "status 1"),
-    example("another answer", ["/bin/sh", "-c", "printf yxx"], "it writes 'yxx'"),
-    of_shell("counts of two programs", "/bin/true", "status -1"),
     of_python("one processor", ONE_PROCESSOR, "requests", is_alone=True),
     of_python("a late thread", LATE_THREAD, "requests", late=1_500),
 ]

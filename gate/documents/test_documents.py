@@ -9,7 +9,7 @@ from fixtures import PROGRAM, TOP, WithProgram, needs, parameterized, run
 from rules import quotes_of, rules_of
 from tree import Tree
 
-LISTED = ["README.md", *(f"docs/{it}.md" for it in "API ARCHITECTURE DECISIONS ENGINES FORMATS JUNIT PROVED SPEED TESTING".split())]
+LISTED = ["README.md", *(f"docs/{it}.md" for it in "API ARCHITECTURE DECISIONS ENGINES FORMATS INSTALL JUNIT PROVED REFERENCE SPEED TESTING".split())]
 """The documents besides the crates' READMEs."""
 
 TREE = Tree(TOP)
@@ -33,10 +33,10 @@ class Documents(unittest.TestCase):
 
     @needs("rt")
     def test_kit(self):
-        """README.md names a kit with the logic of the one here. (Kits with one logic differ in what stands around the prover.)"""
+        """docs/PROVED.md names a kit with the logic of the one here. (Kits with one logic differ in what stands around the prover.)"""
         kit = run(["rt", "version"]).output.decode().splitlines()[0]
         logic = kit.partition(" ")[2]
-        self.assertEqual(re.findall(r"`rattle-kit\S* (logic [^`]*)`", TREE.text("README.md")), [logic])
+        self.assertEqual(re.findall(r"`rattle-kit\S* (logic [^`]*)`", TREE.text("docs/PROVED.md")), [logic])
 
 
 class Commands(WithProgram):

@@ -296,19 +296,10 @@ def example(name: str, is_passed: bool, rule: Callable, ended: Ended, first: End
     return name, Sweep(name, "memory", [], b"", rule, **how), [first, ended, first], is_passed
 
 
-EXAMPLES = [
-    example("its answer", True, MEMORY, REFUSED),
-    example("another status", False, MEMORY, replace(REFUSED, status=2)),
-    example("the line of another fault", False, MEMORY, replace(REFUSED, error=b"testkit: no thread\n")),
-    example("output that is no prefix", False, MEMORY, replace(REFUSED, output=b"answer")),
-    example("a block that it keeps", False, MEMORY, replace(REFUSED, kept=1)),
-    example("the ordinary answer", False, MEMORY, SURVIVED),
+EXAMPLES = rows(f"{TOP}/gate/faults/examples.rows", globals()) + [
     example("the ordinary answer, once", True, MEMORY, SURVIVED, survived=1),
     example("the unit of a worker", True, OF_A_PLAN, OF_UNIT, units=frozenset({1})),
     example("a unit of another number", False, OF_A_PLAN, OF_UNIT, units=frozenset({0})),
-    example("a unit where no worker was refused", False, OF_A_PLAN, replace(OF_UNIT, refused_of="first")),
-    example("no line where none can be written", True, keeps_status, SILENT, FAULT),
-    example("a line where none can be written", False, keeps_status, replace(SILENT, error=FAULT.error), FAULT),
     example("fewer requests than there are at least", False, MEMORY, REFUSED, least=2),
 ]
 

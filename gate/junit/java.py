@@ -64,21 +64,20 @@ class Classes:
         return ran.output.decode()
 
 
-def compiled(folder: str, with_tests: bool = True) -> Classes:
+def compiled(folder: str) -> Classes:
     """Compiles the listener and what stands beside it, as Java 8, and tests of it."""
     os.makedirs(folder)
     classes = Classes(folder)
     stand_in = [] if KIT else glob.glob(f"{EXAMPLES}/kit/**/*.java", recursive=True)
     classes.compile([*stand_in, *(f"{EXAMPLES}/testkit/{name}.java" for name in listener.LISTENER)], "--release", "8")
-    if with_tests:
-        classes.compile([f"{EXAMPLES}/testkit/SampleTests.java", *glob.glob(f"{HERE}/testkit/*.java")])
+    classes.compile([f"{EXAMPLES}/testkit/SampleTests.java", *glob.glob(f"{HERE}/testkit/*.java")])
     return classes
 
 
 def with_service(classes: Classes, folder: str) -> None:
     """Puts the listener into a folder as a build has it: its classes, and the files by which JUnit finds them."""
     os.makedirs(f"{folder}/testkit")
-    for path in glob.glob(f"{classes.folder}/testkit/Record[FL]*.class"):
+    for path in [path for it in listener.RECORDING for path in glob.glob(f"{classes.folder}/testkit/{it}*.class")]:
         shutil.copy(path, f"{folder}/testkit")
     for name, text in listener.SERVICES.items():
         fixtures.write(f"{folder}/{name}", text.decode())

@@ -6,7 +6,7 @@ from dataclasses import dataclass
 from itertools import zip_longest
 from typing import Dict, List, Optional, Sequence, Tuple
 
-HEADER, HEADER_WITH_LOCKS = "testkit-record|2", "testkit-record|3"
+HEADER = "testkit-record|3"
 ENTRY = re.compile(r"E\|([0-9]+)\|([0-9]+)\|([0-9]+)\|(.*)", re.DOTALL)
 LOCK = re.compile(r"L\|([0-9]+)\|([RW]\|.+)")
 FIRST_KEYS = 65_536
@@ -26,6 +26,11 @@ class Entry:
 def entries(lines: Sequence[str]) -> List[Entry]:
     found = filter(None, map(ENTRY.fullmatch, lines))
     return [Entry(int(it[1]), int(it[2]), int(it[3]), it[4]) for it in found]
+
+
+def ended(lines: Sequence[str]) -> List[str]:
+    """The lines with the last one of a record that wasn't cut off."""
+    return [*lines, f"Z|{len(entries(lines))}"]
 
 
 SLACK = 100_000

@@ -1,10 +1,11 @@
-"""What has to come of the sample runs, threads and stamps apart, worked out by hand from SampleTests, OddEngine and ListenerCases."""
+"""What has to come of the sample runs, threads and stamps apart, worked out by hand from SampleTests, OddEngine and the cases."""
 
 from collections import Counter
 from typing import Dict, List, Sequence, Tuple
 
 from cases import HERE, read
 from records import HEADER, by_id, check_lines, check_stamps, entries
+from rows import row, rows
 
 Events = Dict[str, List[str]]
 
@@ -27,22 +28,14 @@ PARALLEL = {
 """The settings by which Jupiter runs tests in parallel."""
 
 JUPITER = "[engine:junit-jupiter]/[class:testkit.LockTests"
-LOCKS = {
-    f"{JUPITER}]/[method:writes()]": ["W|db"],
-    f"{JUPITER}]/[method:reads()]": ["R|db"],
-    f"{JUPITER}]/[method:readsAndWrites()]": [r"R|a\pb\\c\nd", "W|db"],
-    f"{JUPITER}]/[test-template:repeats()]": ["R|db"],
-    f"{JUPITER}]/[nested-class:Inner]": ["R|db"],
-    f"{JUPITER}]/[nested-class:Inner]/[method:prints()]": ["W|java.lang.System.out"],
-    f"{JUPITER}$AloneTests]": ["W|global"],
-    f"{JUPITER}$AloneTests]/[method:isAlone()]": ["W|[replaced-lock:global]", "R|global"],
-}
+LOCKS = {JUPITER + below: locks for below, *locks in rows(f"{HERE}/locks.rows", {"row": row})}
 """The locks of LockTests, but for a test that isn't chosen."""
 
 
 def run_of(statics: Sequence[str], events: Events) -> List[str]:
     """A record without threads and stamps, as `by_id` gives it."""
-    return [HEADER, *sorted(statics)] + [line for it in sorted(events) for line in (it, *(f"  {tail}" for tail in events[it]))]
+    lines = [line for it in sorted(events) for line in (it, *(f"  {tail}" for tail in events[it]))]
+    return [HEADER, f"Z|{sum(map(len, events.values()))}", *sorted(statics), *lines]
 
 
 def sample_run() -> List[str]:

@@ -8,6 +8,7 @@ import records
 import samples
 from cases import Case
 from fixtures import parameterized, write
+from rows import row, rows
 
 STARTED = [records.HEADER, "N|C|[engine:e]|engine", "E|1|0|0|start", "E|1|0|0|finish|ok"]
 TEXT = "".join(f"{line}\n" for line in [*STARTED[:2], "E|1|0|500000|start", "E|1|0|700000|finish|ok"])
@@ -46,24 +47,11 @@ def check_workers(workers, begin=1):
 
 def check_locks(*lines):
     """Lines behind those of two descriptors, of which some are those of the locks above."""
-    found = records.locks_by_id([records.HEADER_WITH_LOCKS, *STARTED[1:2], "N|T|[engine:e]/[t:1]|one", *lines, *STARTED[2:]])
+    found = records.locks_by_id([records.HEADER, *STARTED[1:2], "N|T|[engine:e]/[t:1]|one", *lines, *STARTED[2:]])
     assert found == {"[engine:e]": ["R|b"], "[engine:e]/[t:1]": ["W|a", "R|b"]}
 
 
-CHECKS = [
-    ("another line", check_text, (), ("|ok", "|fail")),
-    ("a stamp that falls", check_text, (), ("|700000|", "|499999|")),
-    ("a stamp after the end", check_text, (), ("|700000|", "|800001|")),
-    ("another record", check_case, (), ("|ok", "|fail")),
-    ("another message", check_case, (), ("", "", "testkit: FOLDER/b\ntestkit: one that goes on\n")),
-    ("events of one id in another order", check_ids, (0, 2, 3, 1, 4), (0, 4, 2, 3, 1)),
-    ("a worker that nothing runs at is left out", check_workers, ([1, 2, 3],), ([1, 2, 3], 4)),
-    ("workers are shared while one is free", check_workers, ([*range(1, 16), *range(1, 4)],), ([1, 2, 2],)),
-    ("a lock is missing", check_locks, LOCKS, LOCKS[:2]),
-    ("locks in another order", check_locks, LOCKS, (LOCKS[0], LOCKS[2], LOCKS[1])),
-    ("a lock among the events", check_locks, LOCKS, (LOCKS[0], STARTED[2], *LOCKS[1:])),
-    ("a pause in milliseconds", samples.check_pause, ([1, 2, 100_002, 100_003],), ([0, 0, 100, 100],)),
-]
+CHECKS = rows(__file__, globals())
 """What is wrong, the comparison, and what it is given: something right, and that."""
 
 

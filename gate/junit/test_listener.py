@@ -15,7 +15,7 @@ import fixtures
 import java
 import samples
 from fixtures import parameterized
-from records import HEADER, HEADER_WITH_LOCKS, by_id, check_lines, check_stamps, entries, locks_by_id
+from records import HEADER, by_id, check_lines, check_stamps, entries, locks_by_id
 
 LONGER = 1 << 12
 """How many lines a file has that is longer than any sample's record."""
@@ -30,7 +30,7 @@ MOST_SECONDS = 60
 """How many seconds that case may take, which needs one or hangs."""
 
 LIFECYCLES = {"sample": "yes", "odd": "yes", "halt": "no end 0", "exit": "no end 0", "memory": "no end 0"}
-"""What `ask lifecycle` says of each sample run: the last three are cut off while the root runs."""
+"""What `ask lifecycle` says of what there is of each sample run: the last three are cut off while the root runs."""
 
 
 class WithClasses(unittest.TestCase):
@@ -57,21 +57,26 @@ class OfCases(WithClasses):
         super().setUpClass()
         cls.facts = {}
         groups = cases.expected()
-        cls.play("ListenerCases", *(case.name for case in groups["texts"] + groups["runs"]), "crowd")
-        cls.play("ListenerCases", *(case.name for case in cases.limits()))
-        cls.play("LockCases", *(case.name for case in groups["locks"]))
+        limits = [case.name for case in cases.limits()]
+        in_threads = [name for name in limits if name in ("huge-texts", "many-waiting")]
+        cls.play("TextCases", *(case.name for case in groups["texts"]))
+        cls.play("ThreadCases", *(case.name for case in groups["threads"]), "crowd", "many-waiting")
+        cls.play("ThreadCases", "huge-texts", memory="200m")
+        cls.play("RunCases", *(case.name for case in groups["runs"]))
+        cls.play("LimitCases", *(name for name in limits if name not in (*in_threads, "locks-at-the-limit")))
+        cls.play("LockCases", *(case.name for case in groups["locks"]), "locks-at-the-limit")
         cls.play("KitCases", *(case.name for case in groups["kit"]))
-        cls.play("ListenerCases", "full-disk", most_bytes=FULL)
-        cls.play("ListenerCases", "full-at-once", most_bytes=len(HEADER) // 2)
+        cls.play("LimitCases", "full-disk", most_bytes=FULL)
+        cls.play("LimitCases", "full-at-once", most_bytes=len(HEADER) // 2)
         cls.play_beside_each_other()
-        forwarding = cls.classes.command("ListenerCases", cls.out, "forwarded-errors")
+        forwarding = cls.classes.command("ThreadCases", cls.out, "forwarded-errors")
         cls.forwarded = fixtures.run(forwarding, seconds=MOST_SECONDS)
 
     @classmethod
-    def play(cls, main, *names, most_bytes=None):
-        """Runs cases in a process, whose files may have so many bytes."""
+    def play(cls, main, *names, most_bytes=None, memory="1g"):
+        """Runs cases in a process with so much memory, whose files may have so many bytes."""
         limit = most_bytes and (lambda: resource.setrlimit(resource.RLIMIT_FSIZE, (most_bytes, most_bytes)))
-        cls.keep(cls.classes.run(main, cls.out, *names, preexec_fn=limit))
+        cls.keep(cls.classes.run(main, cls.out, *names, preexec_fn=limit, env={**os.environ, "JDK_JAVA_OPTIONS": f"-Xmx{memory}"}))
 
     @classmethod
     def keep(cls, output):
@@ -83,12 +88,12 @@ class OfCases(WithClasses):
     @classmethod
     def play_beside_each_other(cls):
         """Runs a case in a process of its own while the case `held` of another process writes the same record."""
-        command = cls.classes.command("ListenerCases", cls.out, "held")
+        command = cls.classes.command("RunCases", cls.out, "held")
         with subprocess.Popen(command, stdin=subprocess.PIPE, stdout=subprocess.PIPE, text=True) as holder:
             try:
                 first = holder.stdout.readline()
                 cls.before = cases.read(f"{cls.out}/held.record")
-                cls.play("ListenerCases", "other-process")
+                cls.play("RunCases", "other-process")
                 cls.after = cases.read(f"{cls.out}/held.record")
                 output, _ = holder.communicate("go on\n", java.SECONDS)
             finally:
@@ -113,6 +118,9 @@ class OfCases(WithClasses):
 
     def test_pause(self):
         samples.check_pause([it.stamp for it in entries(self.lines("times.record"))])
+        # (the stamp of a finish is that of its call, and not that of its message)
+        stamps = [it.stamp for it in entries(self.lines("slow-message.record"))]
+        self.assertGreaterEqual(stamps[-1] - stamps[2], samples.PAUSE)
 
     def test_pause_in_results(self):
         """The clock of the day, by which the kit goes, may be slowed down."""
@@ -144,11 +152,16 @@ class OfSamples(WithClasses, fixtures.WithProgram):
             fixtures.write(path, f"{HEADER}\n" * LONGER)
         counts = self.classes.run("RunSamples", name, path).split()
         lines, record = self.lines(f"{name}.record"), cases.read(path).encode()
+        is_whole = LIFECYCLES[name] == "yes"
+        self.assertEqual([line for line in lines if line.startswith("Z|")], [f"Z|{len(entries(lines))}"] * is_whole)
+        said = fixtures.ask(["recover"], record)
+        self.assertEqual((said.status, bool(said.error)), (int(not is_whole), not is_whole), said)
+        record = said.output
         # (no report and no file is counted)
         self.assertEqual(len(counts), 7)
         self.assertEqual(fixtures.ask(["ask", "stats", *counts], record).status, 0, counts)
         said = fixtures.ask(["ask", "lifecycle"], record)
-        self.assertEqual((said.status, said.output.decode()), (int(LIFECYCLES[name] != "yes"), f"{LIFECYCLES[name]}\n"))
+        self.assertEqual((said.status, said.output.decode()), (int(not is_whole), f"{LIFECYCLES[name]}\n"))
         check_stamps(lines)
         if name == "sample":
             samples.check_stored(lines)
@@ -159,35 +172,45 @@ class OfSamples(WithClasses, fixtures.WithProgram):
             samples.check_workers(lines)
 
 
-TEST = """import java.util.Map;
-import org.junit.jupiter.api.*;
-@TestMethodOrder(MethodOrderer.MethodName.class)
-class ErrorsTest {
-    @Test void a(TestReporter reporter) { reporter.publishEntry(Map.of("\\uD83D", "v", "\\uDE00", "v")); }
-    @Test void b() { System.err.println("of b"); }
-}
-"""
-
-
 @java.needs_junit
 class OfConsole(WithClasses):
     """A run of JUnit's console, which finds the listener by its service and captures what tests write on standard error."""
 
     def play(self, name, folder, words, settings):
         """Runs tests whose classes are in a folder, and returns what is on standard error, and the lines of the record."""
-        settings = {"testkit.record": f"{self.out}/{name}.record", **settings}
+        errors = self.run_console(folder, words, {"testkit.record": f"{self.out}/{name}.record", **settings})
+        return errors, self.lines(f"{name}.record")
+
+    def run_console(self, folder, words, settings, *options):
+        """Runs tests with options of Java, and returns what is on standard error."""
         words = [*words, *(word for key, value in settings.items() for word in ("--config", f"{key}={value}"))]
-        console = [*java.COMMAND, "-jar", java.CONSOLE, "-cp", f"{folder}:{self.service}", "--details", "none"]
+        console = [*java.COMMAND, *options, "-jar", java.CONSOLE, "-cp", f"{folder}:{self.service}", "--details", "none"]
         ran = fixtures.run([*console, *words], seconds=java.SECONDS)
         self.assertEqual(ran.status, 0, ran)
-        return ran.error, self.lines(f"{name}.record")
+        return ran.error
+
+    def compile(self, name):
+        """Compiles a class of `console/`, and returns the folder in which it is then."""
+        java.Classes(f"{self.out}/tests").compile([f"{java.HERE}/console/{name}.java"])
+        return f"{self.out}/tests"
+
+    def test_logging_is_left_alone(self):
+        """Where nothing is recorded a test's logging finds the stream of the test, and where something is, no handler of the configuration."""
+        at = self.compile("LoggingTest")
+        words = ["--select-class", "LoggingTest", "--config", "logs=true"]
+        self.run_console(at, words, {})
+        fixtures.write(f"{self.out}/logging", f"handlers=java.util.logging.FileHandler\njava.util.logging.FileHandler.pattern={self.out}/log\n")
+        option = f"-Djava.util.logging.config.file={self.out}/logging"
+        record = {"testkit.record": f"{self.out}/logging.record", "testkit.verbose": "true"}
+        for settings, said in (({}, b""), (record, f"testkit: this run is recorded in {self.out}/logging.record\n".encode())):
+            self.assertEqual(self.run_console(at, words[:2], settings, option), said)
+            self.assertFalse(os.path.exists(f"{self.out}/log"))
 
     def test_captured_errors(self):
         """What the listener says in a test goes to the console, and not into an entry of the test."""
-        fixtures.write(f"{self.out}/ErrorsTest.java", TEST)
-        java.Classes(f"{self.out}/tests").compile([f"{self.out}/ErrorsTest.java"])
+        at = self.compile("ErrorsTest")
         captured = {"junit.platform.output.capture.stderr": "true"}
-        errors, lines = self.play("errors", f"{self.out}/tests", ["--select-class", "ErrorsTest"], captured)
+        errors, lines = self.play("errors", at, ["--select-class", "ErrorsTest"], captured)
         self.assertIn(b"are one text, and the second is left out", errors)
         reports = [it.tail for it in entries(lines) if it.tail.startswith("report|")]
         self.assertEqual(reports, ["report|\ufffd|v", "report|stderr|of b\\n"])
@@ -196,7 +219,6 @@ class OfConsole(WithClasses):
         """The locks of Jupiter's tests, also of classes that a filter of tags excludes, and that stay for the sake of their tests."""
         classes = ["--select-class", "testkit.LockTests", "--select-class", "testkit.LockTests$AloneTests", "--include-tag", "chosen"]
         _, lines = self.play("locks", self.classes.folder, classes, samples.PARALLEL)
-        self.assertEqual(lines[0], HEADER_WITH_LOCKS)
         self.assertEqual(locks_by_id(lines), samples.LOCKS)
         if not os.access(fixtures.PROGRAM, os.X_OK):
             self.skipTest(fixtures.NO_PROGRAM)

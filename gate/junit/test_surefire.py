@@ -6,27 +6,23 @@ import re
 import shutil
 import tempfile
 import unittest
-from importlib.machinery import SourceFileLoader
 from pathlib import Path
 
 import fixtures
 import java
+import kept
+import listener
 from cases import read
 from fixtures import parameterized
-from records import HEADER, HEADER_WITH_LOCKS, entries, locks_by_id
+from records import entries, locks_by_id
+from rows import row, rows
 
 REPOSITORY = "/usr/share/maven-repo"
 PLUGIN = "org.apache.maven.plugins:maven-surefire-plugin"
 CLASSES = "ABCDEF"
 
-
 DOCUMENTED = "run-%p-%n.record"
-SETTINGS = [
-    ("two processes that are used again", 2, "true", 1, DOCUMENTED, ["run-#-#.record"] * 2),
-    ("a process for each class", 1, "false", 1, DOCUMENTED, ["run-#-#.record"] * len(CLASSES)),
-    ("two executions in Maven's process", 0, "true", 2, DOCUMENTED, ["run-#-#.record"] * 2),
-    ("two executions in Maven's process at one path", 0, "true", 2, "run.record", ["run.#.record", "run.record"]),
-]
+SETTINGS = rows(__file__, globals())
 """A setting's forks, whether they are used again, how often its goal runs, the path, and the records' names but for their digits."""
 
 
@@ -42,19 +38,11 @@ def lines_of_document(element):
     return found[0]
 
 
-def write_repository(jar, folder):
-    """Writes the Maven repository with a jar as `tools/package` does."""
-    package = SourceFileLoader("package", f"{fixtures.TOP}/tools/package").load_module()
-    for name, member in package.in_maven(jar, read(f"{fixtures.TOP}/VERSION").strip()).items():
-        os.makedirs(os.path.dirname(f"{folder}/{name}"), exist_ok=True)
-        Path(f"{folder}/{name}").write_bytes(member.data)
-
-
 @java.needs_junit
 @fixtures.needs("mvn")
 @unittest.skipUnless(os.path.isdir(f"{REPOSITORY}/org/apache/maven/surefire/surefire-junit-platform"), "no libsurefire-java")
 class OfSurefire(unittest.TestCase):
-    """A build with the lines that docs/JUNIT.md shows, but for the folder of the Maven repository."""
+    """A build with the lines that docs/JUNIT.md shows, beside a clone in the folder testkit."""
 
     @classmethod
     def setUpClass(cls):
@@ -62,8 +50,10 @@ class OfSurefire(unittest.TestCase):
         cls.room = tempfile.TemporaryDirectory(prefix="surefire-")
         cls.top = os.path.realpath(cls.room.name)
         cls.addClassCleanup(cls.room.cleanup)
-        java.with_service(java.compiled(f"{cls.top}/classes", with_tests=False), f"{cls.top}/listener")
-        write_repository(Path(shutil.make_archive(f"{cls.top}/listener", "zip", f"{cls.top}/listener")).read_bytes(), cls.top)
+        sources = kept.sources_of(fixtures.TOP)
+        for name, data in listener.in_maven(listener.make_jar(sources, b"#!/bin/sh\n"), sources).items():
+            os.makedirs(os.path.dirname(f"{cls.top}/testkit/bin/maven/{name}"), exist_ok=True)
+            Path(f"{cls.top}/testkit/bin/maven/{name}").write_bytes(data)
         os.makedirs(f"{cls.top}/target/test-classes")
         for name in CLASSES:
             fixtures.write(f"{cls.top}/{name}Test.java", read(f"{java.HERE}/surefire/Test.java").format(name))
@@ -83,7 +73,7 @@ class OfSurefire(unittest.TestCase):
         }
         lines = {it: lines_of_document(it) for it in ("repositories", "dependency", "systemPropertyVariables")}
         text = read(f"{java.HERE}/surefire/pom.xml").format(forks=forks, is_reused=is_reused, **lines, **versions)
-        fixtures.write(f"{self.top}/pom.xml", text.replace("/usr/share/testkit/maven", f"{self.top}/maven").replace(DOCUMENTED, path))
+        fixtures.write(f"{self.top}/pom.xml", text.replace(DOCUMENTED, path))
         for record in glob.glob(f"{self.top}/target/*.record"):
             os.remove(record)
         words = ["mvn", "-B", "-o", f"-Dmaven.repo.local={self.top}/repository", "-Daether.offline.protocols=file"]
@@ -102,9 +92,8 @@ class OfSurefire(unittest.TestCase):
         lines = read(record).split("\n")
         statics = [line for line in lines if line.startswith("N|")]
         classes = [it for it in (line.split("|")[2] for line in statics) if it.count("/") == 1]
-        # (a process to which Surefire gave no class has no lock either)
-        self.assertEqual(lines[0], HEADER_WITH_LOCKS if classes else HEADER, lines)
-        self.assertEqual(locks_by_id(lines), {it: ["W|db"] for it in classes})
+        self.assertEqual(lines[-2:], [f"Z|{len(entries(lines))}", ""])
+        self.assertEqual(locks_by_id(lines), {it: ["W|db", "R|global"] for it in classes})
         for key in [key for key, line in enumerate(statics) if "/[method:" in line]:
             start, end = [it.tail for it in entries(lines) if it.key == key]
             self.assertEqual(start, "start")

@@ -12,13 +12,16 @@ import listener
 from fixtures import TOP, Ran, folder, run
 from test_launcher import PROGRAM, Repository
 
-TOOLS = ("tools/asking.py", "tools/checked.py", "tools/keep_program", "tools/kept.py", "tools/listener.py", "LICENSE", "VERSION")
+VERSION = Path(f"{TOP}/VERSION").read_text(encoding="utf-8").strip()
+TOOLS = ("tools/asking.py", "tools/checked.py", "tools/keep_program", "tools/kept.py", "tools/listener.py", listener.POM, "LICENSE", "VERSION")
+MAVEN = f"maven/testkit/testkit-listener/{VERSION}/testkit-listener-{VERSION}"
 
 
 class Keeper(Repository):
     def __init__(self, test: unittest.TestCase) -> None:
         super().__init__(test)
         for name in TOOLS:
+            os.makedirs(os.path.dirname(self.path(name)), exist_ok=True)
             shutil.copy(f"{TOP}/{name}", self.path(name))
         shutil.copytree(f"{TOP}/examples/junit", self.path("examples/junit"))
         self.write("commands/rt", "#!/bin/sh\necho a kit; echo more\n", 0o755)
@@ -34,7 +37,8 @@ class Keeper(Repository):
         return Path(self.path(f"bin/{name}")).read_bytes()
 
     def made(self) -> Dict[str, bytes]:
-        return {name: self.read(name) for name in sorted(os.listdir(self.path("bin")))} if os.path.isdir(self.path("bin")) else {}
+        names = [os.path.relpath(f"{at}/{name}", self.path("bin")) for at, _, found in os.walk(self.path("bin")) for name in found]
+        return {name: self.read(name) for name in sorted(names)}
 
 
 class Renewed(unittest.TestCase):
@@ -44,15 +48,18 @@ class Renewed(unittest.TestCase):
     @unittest.skipUnless(listener.can_be_made(), "no javac")
     def test_files(self) -> None:
         """It takes the program as it is; its files have the sums that they say, and `./testkit` answers by them."""
+        self.it.write("bin/testkit-listener.jar", "of an earlier layout")
         ran = self.it.renew()
         self.assertEqual((ran.status, ran.error), (0, b""), ran)
-        names = ["PROVED-WITH", "testkit-listener.jar", "testkit-x86_64-linux"]
+        in_maven = sorted(f"{MAVEN}{ending}{sum}" for ending in ("-sources.jar", ".jar", ".pom") for sum in ("", ".md5", ".sha1"))
+        names = ["PROVED-WITH", *in_maven, "testkit-x86_64-linux"]
         printed = sorted(line.split(b": ")[0].decode() for line in ran.output.splitlines())
-        self.assertEqual((list(self.it.made()), printed), (names, [f"bin/{it}" for it in names]))
-        self.assertEqual((self.it.read(names[2]), os.access(self.it.path(f"bin/{names[2]}"), os.X_OK)), (PROGRAM.encode(), True))
-        with zipfile.ZipFile(self.it.path(f"bin/{names[1]}")) as jar:
+        self.assertEqual((list(self.it.made()), printed), (names, sorted(f"bin/{it}" for it in (*names, "testkit-listener.jar"))))
+        self.assertEqual((self.it.read(names[-1]), os.access(self.it.path(f"bin/{names[-1]}"), os.X_OK)), (PROGRAM.encode(), True))
+        with zipfile.ZipFile(self.it.path(f"bin/{MAVEN}.jar")) as jar:
             self.assertIn("testkit/RecordListener.class", jar.namelist())
-        self.assertRegex(self.it.read(names[0]).decode(), r"\A# kit a kit\n# sources [0-9a-f]{64}\n# javac-\d+\n([0-9a-f]{64}  \S*\n){2}\Z")
+            self.assertEqual(jar.read(listener.PROGRAM), PROGRAM.encode())
+        self.assertRegex(self.it.read(names[0]).decode(), r"\A# kit a kit\n# sources [0-9a-f]{64}\n# javac-\d+\n([0-9a-f]{64}  \S*\n){10}\Z")
         self.assertEqual(run(["sha256sum", "-c", "--strict", "PROVED-WITH"], cwd=self.it.path("bin")).status, 0)
         self.it.unprove()
         self.assertEqual(self.it.call("3", input=b"in").status, 3)

@@ -5,46 +5,21 @@ import json
 import os
 import pty
 import shutil
+import signal
 import sys
 import time
 import unittest
 from pathlib import Path
 
 from fixtures import TOP, Ran, folder, needs, parameterized, run, write
+from rows import row, rows, texts
 
 COMMANDS = "awk cat cut dirname find head mktemp readlink rm sed sha256sum sort tail xargs".split()
 """What the launcher calls besides `rt`."""
 
-CRATES = """# Libraries first.
-tk_low:
-tk_high: tk_low indexmap # below testkit, beside tk_other
-tk_other: tk_low
-testkit: tk_high itoa
-test_high tests_may=Wait: tk_high
-"""
-
-PROGRAM = """#!/bin/sh
-[ $# = 0 ] && exit 2
-echo "$PWD"; printf '<%s>' "$@"; cat
-echo "testkit: it complains" >&2
-case $1 in [0-9]*) exit "$1" ;; esac
-"""
-"""What stands for the program. To no words it says, as the program does, that the command line is bad."""
-
-RT = f"""#!{sys.executable} -IS
-import json, os, stat, sys
-top, given = os.environ["REPOSITORY"], sys.stdin.buffer.read()
-with open(f"{{top}}/input", "wb") as file:
-    file.write(given)
-with open(f"{{top}}/call", "w") as file:
-    json.dump([os.getcwd(), sys.argv[1:], stat.S_ISREG(os.fstat(0).st_mode)], file)
-with open(f"{{top}}/answer") as file:
-    output, error, status = json.load(file)
-sys.stdout.write(output)
-sys.stdout.flush()
-sys.stderr.write(error)
-sys.exit(status)
-"""
+TEXTS = texts(f"{os.path.dirname(os.path.realpath(__file__))}/launcher.texts")
+CRATES, PROGRAM, RT = TEXTS["crates.txt"], TEXTS["program"], TEXTS["rt"].replace("PYTHON", sys.executable)
+"""What stands in `crates.txt`, for the program, and for `rt`. To no words the program says, as the real one, that they are bad."""
 
 PARTS = "src/lib.rt src/parts/part.rt specs/Lib.antt proofs/Proof.antt must-fail/a.edit README.md out/rlib/stamp".split()
 LAUNCHER = ("testkit", "tools/sources.sh")
@@ -52,26 +27,15 @@ WORDS = ["ask", "stats", "a word", "two\nlines", "--", "", "*", "$HOME \\n", "-n
 BINARY = bytes(range(256)) * 65536
 """16 MiB."""
 
-SMALL = """#![tactic(auto)]
-
-use std::process::ExitCode;
-
-fn main(rt: HostRuntime) -> ExitCode {
-    let _ = rt.print("a line\\n");
-    let _ = rt.eprint("testkit: unit 1 failed\\n");
-    ExitCode::from(3)
-}
-"""
-"""A program that is compiled in seconds."""
-
 NOT_PROVED = "this build is not proved here"
 OTHER_SOURCES = "the sources are not those of bin/"
 OTHER_PROGRAM = "bin/testkit-x86_64-linux is not the program of bin/PROVED-WITH"
 NOT_RUN = "bin/testkit-x86_64-linux can't be run here (README.md"
+NO_MODE = "bin/testkit-x86_64-linux has lost its mode"
 
 
 class Repository:
-    """Two libraries, a program, a library that isn't below it and a crate of tests; the proved program is a second newer than all."""
+    """Two libraries, a program, a library that isn't below it and a crate of tests; beside the proved program is its sum."""
 
     def __init__(self, test: unittest.TestCase):
         self.at, self.temporary = f"{os.path.realpath(folder(test))}/a folder", folder(test)
@@ -93,6 +57,7 @@ class Repository:
             for name in folders + files:
                 os.utime(f"{at}/{name}", (hour_ago, hour_ago), follow_symlinks=False)
         os.utime(self.program, (hour_ago + 1, hour_ago + 1))
+        self.sum()
         self.answers("5\n")
 
     def path(self, name: str) -> str:
@@ -106,14 +71,23 @@ class Repository:
         ended = ended or f"checked: ended status={status}\nraces: not looked for\nrun=ended status={status} runners=1 proved=no\n"
         self.write("answer", json.dumps([output, f"rt: a warning\n{line}{ended}", status]))
 
+    def sh(self, line: str) -> str:
+        """What a line of shell prints after `tools/sources.sh`."""
+        return run(["sh", "-c", f". tools/sources.sh; {line}"], cwd=self.at).output.decode()
+
+    def sum(self) -> None:
+        """Leaves what `./check` leaves beside the proved program."""
+        self.write("crates/testkit/out/testkit.sum", self.sh('sum_of_build crates/testkit/out/testkit "$(sum_of_sources)"'))
+
     def unprove(self) -> None:
         os.remove(self.program)
 
     def keep(self, program: str = PROGRAM, sources: str = "") -> None:
         """Puts a program into bin/ as one of these sources, and takes the proved one and `rt` away."""
-        self.unprove()
-        os.remove(f"{self.commands}/rt")
-        sources = sources or run(["sh", "-c", ". tools/sources.sh; sum_of_sources"], cwd=self.at).output.decode().strip()
+        for path in (self.program, f"{self.commands}/rt"):
+            if os.path.exists(path):
+                os.remove(path)
+        sources = sources or self.sh("sum_of_sources").strip()
         sum_of_program = hashlib.sha256(program.encode()).hexdigest()
         self.write("bin/testkit-x86_64-linux", program, 0o755)
         self.write("bin/PROVED-WITH", f"# kit a kit\n# sources {sources}\n{sum_of_program}  testkit-x86_64-linux\n")
@@ -128,30 +102,8 @@ class Repository:
 
 
 LOW, PROOF = "crates/tk_low/src/lib.rt", "crates/tk_high/proofs/Proof.antt"
-NEWER = [
-    ("crates.txt", lambda it: it.write("crates.txt", CRATES + "tk_new:\n")),
-    ("no program", lambda it: it.unprove()),
-    ("an empty program", lambda it: it.write("crates/testkit/out/testkit", "", 0o755)),
-    ("a program that can't be run", lambda it: os.chmod(it.program, 0o644)),
-    ("a file that is gone", lambda it: os.remove(it.path(PROOF))),
-    ("a new file", lambda it: it.write("crates/tk_low/specs/New.antt", "")),
-    ("a file below a folder", lambda it: it.write("crates/tk_low/src/parts/part.rt", "new\n")),
-    ("a file of the program", lambda it: it.write("crates/testkit/src/lib.rt", "new\n")),
-]
-"""Changes after which the program that was proved isn't that of the sources."""
-
-OTHER_SUM = [
-    ("crates.txt", OTHER_SOURCES, lambda it: it.write("crates.txt", CRATES + "#\n")),
-    ("a blank, and the time as it was", OTHER_SOURCES, lambda it: (it.write(LOW, "old \n"), os.utime(it.path(LOW), (1, 1)))),
-    ("another name", OTHER_SOURCES, lambda it: os.rename(it.path(LOW), it.path("crates/tk_low/src/Lib.rt"))),
-    ("a file that is gone", OTHER_SOURCES, lambda it: os.remove(it.path(PROOF))),
-    ("a folder that is gone", OTHER_SOURCES, lambda it: shutil.rmtree(it.path("crates/tk_high/specs"))),
-    ("a new file", OTHER_SOURCES, lambda it: it.write("crates/testkit/src/new.rt", "")),
-    ("another program", OTHER_PROGRAM, lambda it: it.write("bin/testkit-x86_64-linux", f"{PROGRAM}#\n", 0o755)),
-    ("a program that can't be started", NOT_RUN, lambda it: os.chmod(it.path("bin/testkit-x86_64-linux"), 0o644)),
-    ("no PROVED-WITH", NOT_PROVED, lambda it: os.remove(it.path("bin/PROVED-WITH"))),
-]
-"""Changes after which the program of bin/ doesn't answer, and why."""
+CHANGES = rows(__file__, globals())
+"""Changes after which the proved program isn't that of the sources, and, with the reason, those after which that of bin/ doesn't answer."""
 
 TRIED = [("5\n", "", 0), ("no 1\n", "", 1), ("", "testkit: bad word 0\n", 2), ("a\nb", "testkit: unit 1\ntwo\n", 3)]
 NO_ANSWER = [
@@ -191,7 +143,7 @@ class Launcher(unittest.TestCase):
     def test_proved_program(self) -> None:
         self.assert_answered("3", *WORDS, input=BINARY, status=3)
 
-    @parameterized(NEWER)
+    @parameterized([row for row in CHANGES if len(row) == 2])
     def test_changed_sources(self, change) -> None:
         change(self.it)
         self.assert_tried(self.it.call("ask", "stats"))
@@ -199,6 +151,7 @@ class Launcher(unittest.TestCase):
     def test_other_changes(self) -> None:
         for path in ("README.md", "must-fail/a.edit", "out/rlib/stamp", "out/new"):
             self.it.write(f"crates/tk_low/{path}", "new\n")
+        os.utime(self.it.path(LOW))
         for path in ("tk_other/src/lib.rt", "test_high/src/lib.rt", "tk_unlisted/src/lib.rt"):
             self.it.write(f"crates/{path}", "new\n")
         self.assert_answered("2", status=2)
@@ -237,6 +190,19 @@ class Launcher(unittest.TestCase):
         self.it.answers("5\n", "testkit: bad word 0\n", status, f"{ended}\n")
         self.assert_failed(self.it.call("replay"), f"no answer by rt try ({ended.splitlines()[-1]}")
 
+    def test_signal(self) -> None:
+        """A signal that ends `rt try` is handed on."""
+        self.it.unprove()
+        self.it.write("commands/rt", "#!/bin/sh\nkill -TERM $$\n", 0o755)
+        ran = self.it.call("run")
+        self.assertEqual((ran.status, ran.output), (128 + signal.SIGTERM, b""), ran)
+        self.assertNotIn(b"no answer", ran.error)
+
+    @parameterized(COMMANDS)
+    def test_missing(self, name) -> None:
+        os.remove(f"{self.it.commands}/{name}")
+        self.assert_failed(self.it.call("run"), f"there is no command {name}", lines=1)
+
     def test_no_toolchain(self) -> None:
         os.remove(f"{self.it.commands}/rt")
         self.assert_answered("1", status=1)
@@ -246,7 +212,7 @@ class Launcher(unittest.TestCase):
     def test_kept_program(self) -> None:
         """The program of bin/ answers where no newer one was proved here, and where it was made of these sources, whatever their times."""
         self.it.keep()
-        for path in ("README.md", "must-fail/a.edit", "out/new", "src/.lib.rt.swp"):
+        for path in ("README.md", "must-fail/a.edit", "out/new", "src/.lib.rt.swp", "src/lib.rt~"):
             self.it.write(f"crates/tk_low/{path}", "new\n")
         self.it.write("crates/tk_other/src/lib.rt", "new\n")
         self.it.write("crates/tk_high/src/lib.rt", "old\n")
@@ -255,9 +221,10 @@ class Launcher(unittest.TestCase):
     def test_proved_before_kept(self) -> None:
         self.it.keep("#!/bin/sh\nexit 2\n")
         self.it.write("crates/testkit/out/testkit", PROGRAM, 0o755)
+        self.it.sum()
         self.assert_answered("3", status=3)
 
-    @parameterized(OTHER_SUM)
+    @parameterized([row for row in CHANGES if len(row) == 3])
     def test_not_kept(self, why, change) -> None:
         """Without `rt` there is no answer, for this reason; with it, `rt try` answers, and says so."""
         self.it.keep()
@@ -273,7 +240,7 @@ class Toolchain(unittest.TestCase):
         """The toolchain's own `rt try` says of a small program what the launcher makes of it."""
         at = f"{folder(self)}/a folder"
         write(f"{at}/crates.txt", "testkit:\n")
-        write(f"{at}/crates/testkit/src/main.rt", SMALL)
+        write(f"{at}/crates/testkit/src/main.rt", TEXTS["small program"])
         os.mkdir(f"{at}/tools")
         for name in LAUNCHER:
             shutil.copy(f"{TOP}/{name}", f"{at}/{name}")

@@ -11,6 +11,7 @@ from pathlib import Path
 from typing import List
 
 from fixtures import PROGRAM, TOP, WithProgram, folder, parameterized, run
+from rows import row, rows, texts
 
 TRACED = "trace=%file,%network,%process,write,writev,pwrite64,pwritev,pwritev2,sendfile,splice,tee,vmsplice,io_uring_setup,ptrace"
 """The calls that are looked at: of files, sockets, processes and threads, and what writes."""
@@ -36,14 +37,7 @@ def others(trace: str) -> List[str]:
     return [it for it in calls[1:] if not ALLOWED.fullmatch(it)]
 
 
-CALLS = [
-    ("ask count all", "examples/two_tests.record", 0, b"5\n"),
-    ("ask explain lifecycle", "examples/broken.record", 1, b"no 2 child-running\n"),
-    ("replay", "examples/small.replay", 0, b"testkit-record|2\n"),
-    ("run --workers 15", "examples/demo.plan", 0, b"skipped 1\n"),
-    ("run", "examples/small.replay", 2, b""),
-    ("--help", "examples/small.replay", 2, b""),
-]
+CALLS = rows(__file__, globals())
 """Words, an input, the status, and how the output begins."""
 
 
@@ -58,27 +52,14 @@ class Calls(WithProgram):
 
 
 STARTED = '7 execve("/a/testkit", ["testkit"], 0x7ffe /* 2 vars */) = 0\n'
-RIGHT = """\
-7 openat(AT_FDCWD, "/etc/ld.so.cache", O_RDONLY|O_CLOEXEC) = 3
-7 newfstatat(3, "", {st_mode=S_IFREG|0644, st_size=45831, ...}, AT_EMPTY_PATH) = 0
-7 openat(AT_FDCWD, "/lib/x86_64-linux-gnu/libc.so.6", O_RDONLY|O_CLOEXEC) = 3
-7 clone3({flags=CLONE_VM|CLONE_FS|CLONE_THREAD, child_tid=0x7f} => {parent_tid=[8]}, 88) = 8
-7 write(1, "5\\n", 2 <unfinished ...>
-7 <... write resumed>) = 2
-"""
-WRONG = [
-    '7 openat(AT_FDCWD, "/etc/passwd", O_RDONLY) = 3\n',
-    "7 socket(AF_INET, SOCK_STREAM, IPPROTO_IP) = 3\n",
-    '7 write(3, "5\\n", 2) = 2\n',
-    "7 clone(child_stack=NULL, flags=CLONE_CHILD_CLEARTID|SIGCHLD) = 8\n",
-]
+TEXTS = texts(f"{TOP}/gate/launcher/traces.texts")
 
 
 class Traces(unittest.TestCase):
     def test_right(self) -> None:
-        self.assertEqual(others(STARTED + RIGHT), [])
-        self.assertEqual(others(RIGHT), ["nothing was traced"])
+        self.assertEqual(others(STARTED + TEXTS["right"]), [])
+        self.assertEqual(others(TEXTS["right"]), ["nothing was traced"])
 
-    @parameterized(WRONG)
+    @parameterized(TEXTS["wrong"].splitlines(keepends=True))
     def test_wrong(self, line: str) -> None:
-        self.assertEqual(others(STARTED + RIGHT + line), [line[2:-1]])
+        self.assertEqual(others(STARTED + TEXTS["right"] + line), [line[2:-1]])

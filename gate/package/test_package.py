@@ -18,6 +18,7 @@ import checked
 import listener
 from checked import PROGRAM as BUILT, RUN
 from fixtures import PROGRAM, TOP, Ran, WithProgram, ask, folder, needs, parameterized, run, write
+from rows import row, rows
 
 PARTS = (".gitignore", "LICENSE", "VERSION", "docs", "examples", "tools")
 """What the small repository has of the work tree."""
@@ -44,25 +45,21 @@ def read(path: str) -> bytes:
 
 VERSION = read(f"{TOP}/VERSION").decode().strip()
 INSIDE = f"testkit-{VERSION}"
-TAR, DEB, JAR = f"{INSIDE}-x86_64-linux.tar.gz", f"testkit_{VERSION}_amd64.deb", "testkit-listener.jar"
-COMMANDS = ("from-open-test-reporting", "timeline", "trace")
-TOOLS = {"asking.py", "python.sh", *COMMANDS, *(f"{it}.py" for it in COMMANDS), "timeline.css", "timeline.html", "timeline.js"}
+TAR, DEB = f"{INSIDE}-x86_64-linux.tar.gz", f"testkit_{VERSION}_amd64.deb"
+SCRIPTS = ("check-records", "from-open-test-reporting", "timeline", "trace")
+COMMANDS = ("check", *SCRIPTS[1:])
+TOOLS = {"asking.py", "python.sh", *SCRIPTS, *(f"{it}.py" for it in SCRIPTS), "timeline.css", "timeline.html", "timeline.js"}
 """The tools of which Debian's package makes commands."""
 EXPLAIN = "usr/bin/testkit-explain"
+SAID = [f"usr/share/{it}" for it in ("doc/testkit/changelog.gz", "doc/testkit/copyright", "lintian/overrides/testkit")]
 MAVEN = f"maven/testkit/testkit-listener/{VERSION}/testkit-listener-{VERSION}"
-IN_MAVEN = [f"{MAVEN}.{kind}{sum}" for kind in ("jar", "pom") for sum in ("", ".md5", ".sha1")]
+JAR, LINK = f"{MAVEN}.jar", "usr/share/java/testkit-listener.jar"
+IN_MAVEN = [f"{MAVEN}{kind}{sum}" for kind in (".jar", "-sources.jar", ".pom") for sum in ("", ".md5", ".sha1")]
 DOCUMENTS = "usr/share/doc/testkit"
 FORMATS = "docs/FORMATS.md"
 CONSOLE = "/usr/share/java/junit-platform-console-standalone.jar"
 HAS_JAVA = listener.can_be_made()
 NO_JAR = f"tools/package: {listener.MISSING}\n".encode()
-ONE_TEST = """public class OneTest {
-    @org.junit.jupiter.api.Test
-    @org.junit.jupiter.api.parallel.ResourceLock("db")
-    void one() {
-    }
-}
-"""
 
 
 class Repository:
@@ -146,7 +143,7 @@ class Made(unittest.TestCase):
         """It has the files of the repository with fixed owners, times and modes, sorted, and no name and no time of its own."""
         printed = "".join(f"{self.of.path('out')}/{it}\n" for it in (TAR, DEB))
         self.assertEqual((self.ran.output.decode(), self.ran.error), (printed, b"" if HAS_JAVA else NO_JAR))
-        self.assertEqual(files_below(self.tar), sorted([*self.packed, "PROVED-WITH", "testkit", *([JAR, *IN_MAVEN] if HAS_JAVA else [])]))
+        self.assertEqual(files_below(self.tar), sorted([*self.packed, "PROVED-WITH", "testkit", *(IN_MAVEN if HAS_JAVA else [])]))
         self.assertEqual([it for it in self.packed if read(f"{self.tar}/{it}") != read(self.of.path(it))], [])
         self.assertEqual(read(f"{self.tar}/testkit"), read(self.of.path(BUILT)))
         names = [it.name for it in self.in_tar]
@@ -165,7 +162,7 @@ class Made(unittest.TestCase):
 
     def place(self, name):
         """Where Debian has a file of the archive."""
-        places = {"LICENSE": f"{DOCUMENTS}/copyright", "docs/testkit.1": "usr/share/man/man1/testkit.1.gz", JAR: f"usr/share/java/{JAR}"}
+        places = {"docs/testkit.1": "usr/share/man/man1/testkit.1.gz"}
         if name.startswith("tools/") or name == "testkit":
             return f"usr/lib/testkit/{name}"
         if name.startswith("maven/"):
@@ -176,8 +173,9 @@ class Made(unittest.TestCase):
         """It has the files of the archive in other places, links, and a command."""
         links = ["usr/bin/testkit", *(f"usr/bin/testkit-{it}" for it in COMMANDS)]
         links += [f"usr/share/man/man1/testkit-{it}.1.gz" for it in ("explain", *COMMANDS)]
-        names = files_below(self.tar)
-        self.assertEqual(files_below(self.deb), sorted([*map(self.place, names), *links, EXPLAIN]))
+        links += [LINK] * HAS_JAVA
+        names = [it for it in files_below(self.tar) if it != "LICENSE"]
+        self.assertEqual(files_below(self.deb), sorted([*map(self.place, names), *links, EXPLAIN, *SAID]))
         self.assertEqual([it for it in links if not os.path.islink(f"{self.deb}/{it}") or not os.path.exists(f"{self.deb}/{it}")], [])
         for name in names:
             data = read(f"{self.deb}/{self.place(name)}")
@@ -194,13 +192,19 @@ class Made(unittest.TestCase):
         libc = max(int(it) for it in re.findall(rb"GLIBC_2\.(\d+)", read(self.of.path(BUILT))))
         size = sum(os.lstat(f"{self.deb}/{it}").st_size for it in files_below(self.deb)) // 1024
         self.assertIn(int(fields.pop("Installed-Size")), range(size, size + 200))
-        wanted = {"Version": VERSION, "Maintainer": "An äuthor <author@place.example>", "Depends": f"libc6 (>= 2.{libc})"}
+        wanted = {"Version": VERSION, "Maintainer": "An äuthor <author@place.example>", "Depends": f"libc6 (>= 2.{libc}), python3 (>= 3.7)"}
         self.assertEqual({name: fields[name] for name in wanted}, wanted)
         files = [it for it in files_below(self.deb) if not os.path.islink(f"{self.deb}/{it}")]
         sums = "".join(f"{hashlib.md5(read(f'{self.deb}/{it}')).hexdigest()}  {it}\n" for it in files)
         self.assertEqual(read(self.of.path("control/md5sums")).decode(), sums)
         parts = re.findall(rb"([\w.-]+)/? +\d+ +0 +0 +100644 ", read(self.of.path(f"out/{DEB}")))
         self.assertEqual(parts, [b"debian-binary", b"control.tar.gz", b"data.tar.gz"], "parts that each dpkg can unpack")
+
+    @needs("lintian")
+    def test_lintian(self):
+        """Debian's own check finds no fault but that the program isn't stripped, and the package says why."""
+        ran = run(["lintian", "--allow-root", self.of.path(f"out/{DEB}")])
+        self.assertEqual((ran.status, re.findall(rb"(?m)^[EW]: .*", ran.output)), (0, []), ran)
 
     def test_answers(self):
         """The unpacked program and its tools answer."""
@@ -212,10 +216,13 @@ class Made(unittest.TestCase):
             self.assertEqual(run([program, "ask", "count", "all"], record, env=environment).output, b"5\n")
             for tool, begin in (("timeline", b"<!doctype html>"), ("trace", b'{"traceEvents":[')):
                 drawn = run([tools + tool], record, env=environment)
-                self.assertTrue(drawn.output.startswith(begin) and b"[engine:e]/[t:1]" in drawn.output, drawn.error)
+                self.assertTrue(drawn.output.startswith(begin) and b"[t:1]" in drawn.output, drawn.error)
             made = run([f"{tools}from-open-test-reporting"], report, env=environment)
             self.assertEqual(made.output, read(f"{TOP}/gate/junit/open-test-reporting.record"), made.error)
-        explained = run([f"{self.deb}/{EXPLAIN}", "list", "failed", "not(name(a b))"], record, env=environment)
+            name = "check" if tools.endswith("-") else "check-records"
+            ran = run([tools + name, f"{self.tar}/examples/two_tests.record"], env=environment)
+            self.assertEqual((ran.status, ran.output.count(b"\n")), (0, 2), ran)
+        explained = run([f"{self.deb}/{EXPLAIN}", "list", "failed", "not(name(a b))"], record)
         self.assertEqual(explained.output, b'2 E|1|1|2|finish|fail|boom   [engine:e]/[t:1] "one"\n', explained.error)
 
     @unittest.skipUnless(HAS_JAVA, "no javac")
@@ -223,9 +230,10 @@ class Made(unittest.TestCase):
         with zipfile.ZipFile(f"{self.tar}/{JAR}") as jar:
             found = {name: jar.read(name) for name in jar.namelist()}
             forms = {(it.create_system, it.external_attr >> 16, it.compress_type, it.date_time) for it in jar.infolist()}
-        heads = ["META-INF/MANIFEST.MF", "META-INF/LICENSE", *listener.SERVICES]
-        classes = sorted(set(found) - set(heads))
-        self.assertEqual(list(found), heads + classes)
+        heads, packed = ["META-INF/MANIFEST.MF", "META-INF/LICENSE", *listener.SERVICES], listener.packed(read(f"{self.tar}/testkit"))
+        classes = sorted(set(found) - set(heads) - set(packed))
+        self.assertEqual(list(found), heads + classes + list(packed))
+        self.assertEqual({name: found[name] for name in packed}, packed)
         self.assertEqual(forms, {(3, 0o100644, zipfile.ZIP_STORED, (1980, 1, 1, 0, 0, 0))})
         self.assertEqual({re.sub(r"(\$\w+)?\.class$", "", name) for name in classes}, {f"testkit/{it}" for it in listener.LISTENER})
         self.assertEqual({found[name][4:8] for name in classes}, {b"\0\0\0\x34"}, "Java 8")
@@ -233,8 +241,10 @@ class Made(unittest.TestCase):
 
     @unittest.skipUnless(HAS_JAVA, "no javac")
     def test_maven(self):
-        """The same jar stands in a repository of Maven, with its coordinates, and with sums, as those who download it check."""
-        self.assertEqual(read(f"{self.tar}/{MAVEN}.jar"), read(f"{self.tar}/{JAR}"))
+        """The jar stands in a repository of Maven, with its sources, its coordinates, and sums, as those who download it check."""
+        self.assertEqual(read(f"{self.deb}/{LINK}"), read(f"{self.tar}/{JAR}"))
+        with zipfile.ZipFile(f"{self.tar}/{MAVEN}-sources.jar") as sources:
+            self.assertEqual(sorted(sources.namelist()), sorted(["META-INF/LICENSE", *(f"testkit/{it}.java" for it in listener.LISTENER)]))
         coordinates = re.findall(r"<(groupId|artifactId|version)>(.*)</", read(f"{self.tar}/{MAVEN}.pom").decode())
         self.assertEqual(coordinates, [("groupId", "testkit"), ("artifactId", "testkit-listener"), ("version", VERSION)])
         for name in IN_MAVEN[::3]:
@@ -244,14 +254,16 @@ class Made(unittest.TestCase):
 
     @unittest.skipUnless(HAS_JAVA and os.path.exists(CONSOLE), "no javac")
     def test_jar_in_the_console(self):
-        """The console finds the listener and the filter in the jar, which record a run with its locks."""
+        """The console finds the listener and the filter in the jar, which record a run with its locks; the program in the jar answers."""
+        if not os.path.exists(PROGRAM):
+            self.skipTest("no proved program")
         at = folder(self)
-        write(f"{at}/OneTest.java", ONE_TEST)
-        compiled = run(["javac", "-d", f"{at}/classes", "-cp", CONSOLE, f"{at}/OneTest.java"])
+        one_test = f"{TOP}/gate/package/OneTest.java"
+        compiled = run(["javac", "-nowarn", "-d", f"{at}/classes", "-cp", f"{CONSOLE}:{self.tar}/{JAR}", one_test])
         words = ["-cp", f"{at}/classes:{self.tar}/{JAR}", "--config", f"testkit.record={at}/run.record", "--select-class", "OneTest"]
-        ran = run(["java", "-jar", CONSOLE, *words, "--disable-banner"], cwd=at)
+        ran = run(["java", f"-Dexamples={self.tar}/examples", "-jar", CONSOLE, *words, "--disable-banner"], cwd=at)
         self.assertEqual((compiled.status, ran.status), (0, 0), (compiled, ran))
-        self.assertRegex(read(f"{at}/run.record"), rb"(?s)^testkit-record\|3\n.*method:one\(\).*\nL\|\d\|W\|db\n.*\|finish\|ok\n")
+        self.assertRegex(read(f"{at}/run.record"), rb"(?s)^testkit-record\|3\n.*method:one\(\).*\nL\|\d\|W\|db\n.*\|finish\|ok\nZ\|\d+\n$")
 
 
 def ignore_mode(it):
@@ -265,19 +277,7 @@ def committed(change):
 
 
 NO_RUN, CHANGED = f"no run of ./check that passed has left {RUN}", f"{FORMATS} is not as it was committed"
-REFUSED = [
-    ("no run of the gate", 1, NO_RUN, lambda it: os.remove(it.path(RUN))),
-    ("a run that was cut off", 1, NO_RUN, lambda it: it.write(RUN, read(it.path(RUN))[:-1])),
-    ("another tree", 1, "./check passed for the tree ", lambda it: (it.git("rm", "-q", FORMATS), it.git("commit", "-qmnew"))),
-    ("another program", 1, f"{BUILT} is not the program that", lambda it: it.write(BUILT, b"new")),
-    ("a file changed", 1, CHANGED, lambda it: it.write(FORMATS, b"new")),
-    ("another mode", 1, CHANGED, ignore_mode),
-    ("a file added", 1, "examples/new.record is not as it was committed", lambda it: it.write("examples/new.record", b"new")),
-    ("no repository", 70, "", lambda it: shutil.rmtree(it.path(".git"))),
-    ("a link", 70, "examples/a.record is no file", committed(lambda it: os.symlink("x", it.path("examples/a.record")))),
-    ("no tool", 70, "the commit has no tools/timeline.css", committed(lambda it: os.remove(it.path("tools/timeline.css")))),
-    ("no version", 70, "VERSION is no version: '1.0.0-new'", committed(lambda it: it.write("VERSION", b"1.0.0-new\n"))),
-]
+REFUSED = rows(__file__, globals())
 """Where no package comes: the status, what is said, and what was done."""
 
 
@@ -314,7 +314,7 @@ class Refusals(unittest.TestCase):
         it = Repository(folder(self))
         ran = it.package(PATH=without_jdk(self))
         with tarfile.open(it.path(f"out/{TAR}")) as files:
-            self.assertEqual((ran.status, ran.error, f"{INSIDE}/{JAR}" in files.getnames()), (0, NO_JAR, False))
+            self.assertEqual((ran.status, ran.error, any("/maven/" in it for it in files.getnames())), (0, NO_JAR, False))
 
     @unittest.skipUnless(HAS_JAVA, "no javac")
     def test_no_java(self):

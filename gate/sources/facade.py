@@ -8,7 +8,7 @@ from sources import Source
 from tree import Tree
 
 FACADE = "engine_testkit"
-DOCUMENTS = ("README.md", "docs/ENGINES.md", "docs/JUNIT.md")
+DOCUMENTS = ("README.md", "docs/ENGINES.md", "docs/JUNIT.md", "docs/REFERENCE.md")
 USE = re.compile(r"^pub use ([^;]*);", re.MULTILINE)
 MODULE = re.compile(r"^pub mod (\w+);", re.MULTILINE)
 QUOTED = re.compile(r"```.*?```|`[^`]*`|^    .*", re.DOTALL | re.MULTILINE)

@@ -53,7 +53,7 @@
     point("pointerdown", ...bars.failed[0]);
     point("pointerup", ...bars.failed[0]);
     saw.selected = terms("details");
-    saw.sharers = state.sharers.map((it) => it.id);
+    saw.sharers = state.sharers.map((it) => idOf(descriptors[it]));
   }
   function found(text) {
     element("search").value = text;
@@ -75,5 +75,20 @@
   saw.longest = terms("details");
   document.querySelectorAll("#gaps button")[1].click();
   saw.late = terms("details");
+  saw.visible = visible("a\u2065\u2066\u2067\u2068\u2069\u206a\u001b\r\tb");
+  show(data.end - 5, data.end);
+  document.querySelector("#gaps button").click();
+  const { it, length } = state.gap;
+  saw.gapIsSeen = [state.left <= begins[it] - Number(length), begins[it] < state.right];
+  const panel = document.querySelector("aside");
+  const [name, source] = ["name", "source"].map((part) => document.querySelector(`#slowest .${part}`));
+  [name.textContent, source.textContent] = ["n".repeat(300), "s".repeat(300)];
+  saw.panel = [panel.scrollWidth <= panel.clientWidth, name.clientWidth > 100, source.clientHeight > name.clientHeight];
+  const [one, other] = numbers.filter(isTest);
+  const isBeside = () => besideText(one).includes(idOf(descriptors[other]));
+  begins[other] = ends[one] - 0.5;
+  saw.touches = [isBeside()];
+  begins[other] = ends[one];
+  saw.touches.push(isBeside());
   document.body.dataset.saw = JSON.stringify(saw);
 })();

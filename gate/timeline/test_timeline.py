@@ -6,10 +6,11 @@ import html
 import json
 import os
 import re
-from operator import itemgetter
+from itertools import accumulate
 from pathlib import Path
 
 from fixtures import PROGRAM, TOP, WithProgram, folder, needs, parameterized, run, write
+from rows import rows
 
 HERE = os.path.dirname(os.path.realpath(__file__))
 TIMELINE = f"{TOP}/tools/timeline"
@@ -30,9 +31,10 @@ def nodes(*words):
 
 
 def holding(record, *locks):
-    """A record with the lines of these locks, as `1 W db`, after those of its descriptors."""
+    """A record with the lines of these locks, as `1 W db`, after those of its descriptors, and with its end line."""
     head, mark, lines = record.replace("record|2", "record|3").partition("E|")
-    return head + "".join("L|" + "|".join(lock.split(" ", 2)) + "\n" for lock in locks) + mark + lines
+    text = head + "".join("L|" + "|".join(lock.split(" ", 2)) + "\n" for lock in locks) + mark + lines
+    return f"{text}Z|{len(re.findall('(?m)^E', text))}\n"
 
 
 def events(*words):
@@ -55,42 +57,51 @@ No name is on a bar, so that each bar is one area of its color.
 
 
 def columns(*names):
-    """Of the data of a page these columns of each execution."""
-    return lambda data: [[row[data["columns"].index(name)] for name in names] for row in data["executions"]]
+    """Of the data of a page these columns of each execution, as the page reads them."""
+
+    def read(data):
+        of = data["executions"]
+        sums = {name: list(accumulate(of[name])) for name in ("descriptor", "first", "begin", "row")}
+        lanes = [lane for lane in data["lanes"] for _ in range(lane["rows"])]
+        found = []
+        for number, letter in enumerate(of["ending"]):
+            get = {name: of[name].get(str(number)) for name in ("worker_of_end", "message", "entries")}
+            get.update({name: it[number] for name, it in sums.items()})
+            parts = of["parts"].get(str(number), [0, 0])
+            get.update(ending=letter, begin=sums["begin"][number] + parts[0], end=sums["begin"][number] + of["length"][number] + parts[1])
+            get.update(last=get["first"] + of["events"][number], worker=lanes[get["row"]]["worker"], height=of["height"].get(str(number), 1))
+            get.update(start=of["start"][number] if "start" in of else sums["begin"][number], stop=of.get("stop", {number: None})[number])
+            found.append([get[name] for name in names])
+        return found
+
+    return read
 
 
 ONE = nodes("T 1")
 ONE_RUN = ONE + events("1 1 5 start", "1 1 7 finish|ok")
-DATA = [
-    ("no unit", ONE_RUN, [], itemgetter("unit"), 0),
-    ("milliseconds", ONE_RUN, ["--unit", "milliseconds"], itemgetter("unit"), 1_000_000),
-    (
-        *("a test with a test below it", nodes("B b", "T b/1") + events("1 1 0 start", "1 2 3 start", "1 2 5 finish|ok", "1 1 9 finish|ok"), []),
-        *(itemgetter("slowest"), [[1, "9"], [0, "2"]]),
-    ),
-    ("a finish on another worker", ONE + events("1 1 5 start", "3 1 7 finish|ok"), [], columns("worker", "worker_of_end", "end"), [[1, 3, 2]]),
-    (
-        *("ties", ONE + events("1 1 5 start", "1 1 5 finish|ok", "1 1 7 start", "1 1 7 report", "1 1 7 skip|", "1 1 7 start", "1 1 8 finish|ok"), []),
-        *(columns("begin", "end"), [[0, 0.5], [2.5, 2.5], [2.75, 3], [2, 2.5]]),
-    ),
-    ("stamps that fall", ONE + events("1 1 7 start", "1 1 5 finish|ok"), [], lambda it: [it["times"], columns("begin", "end")(it)], [False, [[0, 1]]]),
-    (
-        *("entries", ONE + events("1 1 5 start", "1 1 6 report|a|b|c|d", "1 1 6 report", "1 1 7 finish|ok", "1 1 8 report|e|f"), []),
-        *(columns("entries"), [[[["a", "b", "c", "d"], []]]]),
-    ),
-    (
-        *("locks", holding(ONE_RUN, "1 R a\\pb c", "1 W db"), []),
-        *(itemgetter("descriptors"), [["T", "[engine:e]/[x:1]", "", False, ["R a|b c", "W db"]]]),
-    ),
-]
-"""What the data of a page have: the name, the record, the words, what is looked at, and what it has to be."""
 
-NESTED = nodes("C c", "T c/1", "T c/2") + events("1 1 5 start", "1 2 5 start", "1 2 7 finish|ok", "1 3 7 start", "1 3 9 finish|ok", "1 1 9 finish|ok")
-TRACED = [
-    ("a container and its tests", NESTED, ["--unit", "milliseconds"], [(1, 0, 4_000), (1, 0, 2_000), (1, 2_000, 2_000)]),
-    ("stamps that fall", ONE + events("1 1 7 start", "1 1 5 finish|ok"), ["--unit", "milliseconds"], [(1, 0, 1)]),
-]
-"""The slices of a trace, each its thread, begin and length, after the name, the record and the words."""
+
+def data(name, words, lines, unit, looked, wanted, *locks):
+    """A record, the words of the tool, parts of its page's data, or columns of its executions, and what they have to be."""
+    record = nodes(*words.split("; ")) + events(*lines.split("; "))
+    return name, holding(record, *locks) if locks else record, unit.split(), looked.split(), json.loads(wanted)
+
+
+def traced(name, words, lines, unit, wanted):
+    """A record, the words of the tool, and the slices of the trace, each its thread, begin and length."""
+    return name, nodes(*words.split("; ")) + events(*lines.split("; ")), unit.split(), json.loads(wanted)
+
+
+ROWS = rows(__file__, globals())
+
+
+def many(*ends):
+    """A record of tests of one worker that start in turn, and end in the order of these numbers."""
+    starts = [f"1 {it + 1} {it} start" for it in range(len(ends))]
+    return nodes(*(f"T {it}" for it in range(len(ends)))) + events(*starts, *(f"1 {it + 1} {len(ends) + at} finish|ok" for at, it in enumerate(ends)))
+
+
+MANY = [("that overlap", many(*range(20_000))), ("within each other", many(*reversed(range(20_000))))]
 
 
 class Page(WithProgram):
@@ -107,10 +118,15 @@ class Page(WithProgram):
         ran = run([f"{TOP}/tools/{tool}"], stdin=opened)
         self.assertEqual((ran.status, ran.output, ran.error), (70, b"", f"tools/{tool}: standard input is a folder\n".encode()))
 
+    @parameterized(["timeline", "trace", "from-open-test-reporting"])
+    def test_no_realpath(self, tool):
+        ran = run(["/bin/sh", f"{TOP}/tools/{tool}"], env={"PATH": folder(self)})
+        self.assertEqual((ran.status, ran.output, ran.error.count(b"\n")), (70, b"", 1), ran)
+
     def test_refusals(self):
         """The program's line and status are handed on, and no page is written."""
-        ran = self.drawn(MIXED[:-1])
-        self.assertEqual((ran.status, ran.output, ran.error), (2, b"", b"testkit: line 26 is bad\n"))
+        ran = self.drawn(f"{MIXED}x")
+        self.assertEqual((ran.status, ran.output, ran.error), (2, b"", b"testkit: line 28 is bad\n"))
         ran = self.drawn(MIXED, "/none.record")
         self.assertEqual((ran.status, ran.output, ran.error.count(b"\n")), (70, b"", 1), ran)
         ran = self.drawn(MIXED, "--unit", "hours")
@@ -127,9 +143,30 @@ class Page(WithProgram):
     def data(self, drawn):
         return json.loads(re.search(DATA_OF_PAGE, drawn.output.decode("ascii"), re.DOTALL)[1])
 
-    @parameterized(DATA)
-    def test_data(self, record, words, look, wanted):
-        self.assertEqual(look(self.data(self.drawn(record, *words))), wanted)
+    @parameterized([row for row in ROWS if len(row) == 5])
+    def test_data(self, record, words, looked, wanted):
+        found = self.data(self.drawn(record, *words))
+        self.assertEqual([found[it] for it in looked] if looked[0] in found else columns(*looked)(found), wanted)
+
+    def test_cut_off(self):
+        """A record that is cut off is drawn as far as it goes, and the page and the trace say so."""
+        whole = holding(ONE_RUN, "1 W db")
+        cut_off, files = whole[: whole.index("Z")], self.files(ONE_RUN, whole[: whole.index("Z") + 1])
+        line = "cut off after line 6"
+        for text, cuts in ((whole, [""]), (cut_off, [line])):
+            data = self.data(self.drawn(text))
+            self.assertEqual((data["cuts"], columns("ending")(data)), (cuts, [["s"]]))
+        self.assertEqual(self.data(self.drawn("", *files))["cuts"], ["", line])
+        names, _ = self.traced(*files)
+        self.assertEqual([it["args"]["name"] for it in names[:2]], ["0.record", f"1.record ({line})"])
+
+    @parameterized(MANY)
+    def test_many(self, record):
+        """Both tools take seconds for 40,000 events, and the page has few bytes for each."""
+        for tool in ("timeline", "trace"):
+            ran = run([f"{TOP}/tools/{tool}"], record.encode(), seconds=30, env={**os.environ, "PROGRAM": PROGRAM})
+            self.assertEqual((ran.status, ran.error), (0, b""))
+        self.assertLess(len(self.drawn(record).output), 60_000 + 40_000 * 25)
 
     def files(self, *records):
         at = folder(self)
@@ -137,17 +174,23 @@ class Page(WithProgram):
             write(f"{at}/{number}.record", record)
         return [f"{at}/{number}.record" for number in range(len(records))]
 
+    def test_names_of_threads(self):
+        """A lane has the name of its first thread, and says that there were others."""
+        told = events("1 1 0 report|thread|main", "1 1 1 start", "1 1 2 finish|ok", "1 2 3 report|thread|other", "1 2 4 skip|off", "2 1 5 report|k|v")
+        data = self.data(self.drawn(nodes("T 1", "T 2", "T 3") + told + events("2 3 6 start")))
+        self.assertEqual([it["thread"] for it in data["lanes"]], ["main ..", ""])
+
     def test_several_records(self):
         """They lie on one axis, each in lanes of its own, with their own keys and positions."""
         other = ONE + events("1 1 4 start", "1 1 9 finish|fail|boom")
         data = self.data(self.drawn("", *self.files(ONE_RUN, other)))
-        looked = columns("ending", "first", "last", "start", "stop", "begin", "end", "row")(data)
-        self.assertEqual(looked, [["succeeded", 0, 1, "1", "3", 1, 3, 0], ["failed", 0, 1, "0", "5", 0, 5, 1]])
+        looked = columns("ending", "first", "last", "start", "begin", "end", "row")(data)
+        self.assertEqual(looked, [["f", 0, 1, 0, 0, 5, 1], ["s", 0, 1, 1, 1, 3, 0]])
         self.assertEqual([(it["record"], it["worker"]) for it in data["lanes"]], [(0, 1), (1, 1)])
         self.assertEqual(data["records"], ["0.record", "1.record"])
         fallen = ONE + events("1 1 7 start", "1 1 5 finish|ok")
         data = self.data(self.drawn("", *self.files(ONE_RUN, fallen)))
-        self.assertEqual((data["times"], columns("ending", "first", "last")(data)), (False, [["succeeded", 0, 1]] * 2))
+        self.assertEqual((data["times"], columns("ending", "first", "last")(data)), (False, [["s", 0, 1]] * 2))
 
     def traced(self, *words, record=""):
         """The events of a trace, those that name processes and threads apart."""
@@ -159,7 +202,7 @@ class Page(WithProgram):
     def test_trace(self):
         """A process for each record and a thread for each worker; what overlaps in one stands beside it."""
         of_one = ("1 1 1000 start", "1 1 1001 report|k|v|l|w", "2 1 1004 finish|fail|boom", "1 1 1005 start", "1 1 1006 skip|off")
-        one = holding(ONE.replace("[x:1]|", "[x:1]|one"), "1 W db") + events(*of_one)
+        one = holding(ONE.replace("[x:1]|", "[x:1]|one") + events(*of_one), "1 W db")
         two = nodes("T 1", "T 2", "T 3") + events("1 1 1001 start", "1 2 1002 start", "1 1 1003 finish|ok", "1 2 1006 finish|ok", "1 3 1007 skip|off")
         names, found = self.traced(*self.files(one, two))
         threads = [(0, 1, "worker 1"), (1, 1, "worker 1"), (1, 17, "worker 1, beside it 1")]
@@ -174,17 +217,17 @@ class Page(WithProgram):
         wanted = [{**same, "ending": ending, **it} for ending, it in zip(("failed", "unfinished", "skipped"), (of_failed, *of_others))]
         self.assertEqual([it["args"] for it in found if it["pid"] == 0], wanted)
 
-    @parameterized(TRACED)
+    @parameterized([row for row in ROWS if len(row) == 4])
     def test_slices(self, record, words, wanted):
         names, found = self.traced(*words, record=record)
         self.assertEqual(names[0]["args"], {"name": "record"})
-        self.assertEqual([(it["tid"], it["ts"], it["dur"]) for it in found], wanted)
+        self.assertEqual([[it["tid"], it["ts"], it["dur"]] for it in found], wanted)
 
     def test_texts(self):
         """No text of a record gets into the page as markup, and the policy names the page's own script and style alone."""
         drawn = self.drawn(MIXED.replace("[x:3]|\n", f"[x:3]|{HOSTILE}\n"))
         page = drawn.output.decode("ascii")
-        self.assertIn(HOSTILE, [it[2] for it in self.data(drawn)["descriptors"]])
+        self.assertIn(HOSTILE, self.data(drawn)["descriptors"]["name"])
         self.assertFalse(re.search("[<>&]", re.search(DATA_OF_PAGE, page, re.DOTALL)[1]))
         texts = [re.search(rf"<{kind}>(.*?)</{kind}>", page, re.DOTALL)[1] for kind in ("script", "style")]
         hashes = [base64.b64encode(hashlib.sha256(text.encode()).digest()).decode() for text in texts]
@@ -254,6 +297,18 @@ class Browser(WithProgram):
         self.assertEqual((self.saw["closer"], self.saw["whole"]), (True, [0, 81]))
         ids = ["[engine:e]", *(f"[engine:e]/[x:c]{it}" for it in ("", "/[x:1]", "/[x:2]", "/[x:1]", ""))]
         self.assertEqual(self.saw["keys"], ids)
+
+    def test_details(self):
+        """Letters that can't be seen are shown, a test that ends where another begins isn't beside it, and lists stay in their panel."""
+        self.assertEqual(self.saw["visible"], "a\u2065[U+2066][U+2067][U+2068][U+2069]\u206a\u241b\u240d\tb")
+        self.assertEqual((self.saw["touches"], self.saw["panel"]), ([True, False], [True, True, True]))
+        self.assertEqual(self.saw["gapIsSeen"], [True, True])
+        self.assertIn(b'<p id="cut" class="note" role="note" hidden="">', self.opened.output)
+
+    def test_cut_off(self):
+        """The head of the page says where the record is cut off."""
+        opened = self.open(MIXED[: MIXED.index("Z|")], "")
+        self.assertIn(b'role="note">The record is cut off after line 26: what stands before that is drawn.</p>', opened.output)
 
     def test_longest(self):
         """It lists the slowest tests and the longest gaps, the longest first, and shows the one that is chosen."""

@@ -1,2 +1,3 @@
 pub mod SinkGrowth
 pub mod Emissions
+pub mod LockedTables

@@ -2,8 +2,8 @@
 -- an engine by hand has to meet so that its runs keep the lifecycle.
 pub use Rattle.tk_query_lifecycle.specs.KeepsLifecycle.{KeepsLifecycle, steps_of}
 pub use Rattle.tk_query_lifecycle.specs.Lifecycle.{HasId, IsLifecycle}
-pub use Rattle.tk_plan_laws.specs.Laws.{IsKept}
-pub use Rattle.tk_plan_laws.specs.Listening.{Listens}
+pub use Rattle.tk_run_laws.specs.Laws.{IsKept}
+pub use Rattle.tk_run_laws.specs.Listening.{Listens}
 pub use Rattle.tk_engine_lifecycle.specs.Units.{Frame, KeepsAlone, KeepsAround, UnitsKeepLifecycle}
 pub use Rattle.tk_engine_lifecycle.specs.UnderWay.{IsUnderWay, UnitState}
 pub use Rattle.tk_engine_unit_events.specs.Endings.{EndsAsItMay, HasOutcome, IsStaticTest}

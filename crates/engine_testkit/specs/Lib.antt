@@ -17,9 +17,7 @@ pub use Rattle.tk_report_text.specs.Labels
 pub use Rattle.tk_engine_execute.specs.Run
 pub use Rattle.tk_engine_execute.specs.Engines
 pub use Rattle.tk_engine_execute.specs.Grown
-pub use Rattle.tk_engine_events.specs.Events
-pub use Rattle.tk_engine_events.specs.Emitted
-pub use Rattle.tk_engine_events.specs.Emitters
+pub use Rattle.tk_engine_unit_events.specs.Emitted
 pub use Rattle.tk_engine_unit_events.specs.UnitSteps
 pub use Rattle.tk_engine_hierarchical.specs.Reporting
 pub mod Questions

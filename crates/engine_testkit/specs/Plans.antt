@@ -11,9 +11,10 @@ pub use Rattle.tk_plan.specs.Planned.{IsNeedOf, IsPlanned, IsWithin, need_word}
 pub use Rattle.tk_plan.specs.Script.{moves_below}
 pub use Rattle.tk_plan.specs.StepEvents.{payload_of}
 pub use Rattle.tk_plan.specs.Trees.{IsForest, contents, forest}
-pub use Rattle.tk_plan_code.specs.Bodies.{bodies_of, body_at}
-pub use Rattle.tk_plan_code.specs.NodeJson.{plan_data}
-pub use Rattle.tk_plan_code.specs.NodeViews.{node_view, plain}
+pub use Rattle.tk_plan_nodes.specs.Bodies.{bodies_of, body_at}
+pub use Rattle.tk_plan_nodes.specs.BodyCalls.{AreCalled, IsBodiesFault, calls_of}
+pub use Rattle.tk_plan_nodes.specs.NodeJson.{plan_data}
+pub use Rattle.tk_plan_nodes.specs.NodeViews.{node_view, plain}
 pub use Rattle.tk_plan_reading.specs.FaultyNodes.{HasNode, faulty_id}
 pub use Rattle.tk_plan_reading.specs.PlanAnswers.{Answered, without_node}
 pub use Rattle.tk_plan_reading.specs.PlanOf.{PlanOf}

@@ -16,10 +16,9 @@ pub mod questions;
 pub mod record;
 
 pub use engine::{
-    Body, BookSeat, Context, Emitter, Engine, FailedRun, Hierarchical, Need, Outcome, Reporter,
-    Results, RunFault, Sink, Tests, UnitContext, UnitEngine, UnitFault, UnitTable, Units, emit,
-    execute, execute_with_record, file_published, finish, finished, publish_file, register, report,
-    reported, run_tests, skip, skipped, start, started,
+    Body, BookSeat, Context, Engine, FailedRun, Hierarchical, Need, Outcome, Reporter, Results,
+    RunFault, Sink, Tests, UnitFault, emit, execute, execute_with_record, file_published, finish,
+    finished, publish_file, register, report, reported, run_tests, skip, skipped, start, started,
 };
 pub use plans::{Bodies, BuildFault, ExecutionMode, Plan, PlanNode, build_plan};
 pub use questions::{

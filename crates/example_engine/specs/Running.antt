@@ -4,8 +4,8 @@ use Rattle.std.specs.Prelude.{List, [], ◌∷◌, ◌++◌, length, slice_get, 
 use Rattle.std.specs.Fmt.{decimal}
 use Rattle.engine_testkit.specs.Descriptor.{Descriptor}
 use Rattle.engine_testkit.specs.Event.{Event}
-use Rattle.engine_testkit.specs.Events.{file_published, finished, registered, reported}
-use Rattle.engine_testkit.specs.Events.{skipped, started}
+use Rattle.engine_testkit.specs.Emitted.{file_published, finished, registered, reported}
+use Rattle.engine_testkit.specs.Emitted.{skipped, started}
 use Rattle.engine_testkit.specs.Outcome.{Outcome}
 use Rattle.engine_testkit.specs.Outcome.TheVariants.{Successful, Failed}
 use Rattle.example_engine.specs.declared.cases.Case.{Case}

@@ -2,7 +2,7 @@
 use self::Command::{Abort, Fail, File, Report, Rows};
 use self::Planned::{Isolated, Reads, Skipped, Writes};
 use engine_testkit::{
-    Bodies, Body, BuildFault, Context, DType, ExecutionMode, Hierarchical, LockMode, Outcome,
+    Bodies, Body, Context, DType, ExecutionMode, Failure, Hierarchical, LockMode, Outcome,
     PlanNode, Reporter, Tests, UnitFault, build_plan,
 };
 use std::alloc::{AllocError, Global};
@@ -126,7 +126,7 @@ fn root_node(alloc: Global) -> Result<PlanNode<'static>, AllocError> {
 }
 
 /// Makes the engine.
-pub fn desk_engine(alloc: Global) -> Result<Hierarchical<DeskTests>, BuildFault> {
+pub fn desk_engine(alloc: Global) -> Result<Hierarchical<DeskTests>, Failure> {
     let root = root_node(alloc)?;
     let (plan, bodies) = (build_plan(alloc, &root)?, root.bodies(alloc)?);
     Ok(Hierarchical::new(alloc, plan, DeskTests { bodies })?)

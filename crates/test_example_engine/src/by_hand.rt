@@ -4,5 +4,3 @@ mod broken;
 mod cases;
 mod even;
 mod locks;
-mod numbers;
-mod units;

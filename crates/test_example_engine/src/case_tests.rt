@@ -39,6 +39,7 @@ E|1|2|3|file|out/wrong.txt
 E|1|2|4|finish|ok
 E|1|3|5|skip|not yet
 E|0|0|6|finish|ok
+Z|26
 ";
 
 #[test]

@@ -113,20 +113,13 @@ not counted as failed:
     Ok(())
 }
 
+// What is expected of two tests: all that differs from their report stands in the tree, or in the
+// counts too.
 #[test]
 fn reports_that_differ_are_shown(rt: HostRuntime) -> Result<(), Failure> {
     let alloc = rt.alloc();
     let recorded = read_record(alloc, &mut ByteSource::new(two_tests()))?;
-    let expected = "skipped 1
-started 2
-finished 2
-aborted 0
-succeeded 1
-failed 1
-reporting 0
-dynamic 0
-files 0
-[engine:e]
+    let tree = "[engine:e]
   start
   finish|ok
 [engine:e]/[t:1]
@@ -135,13 +128,24 @@ files 0
 [engine:e]/[t:2]
   skip|off
 ";
+    let counts = "skipped 1
+started 2
+finished 2
+aborted 0
+succeeded 1
+failed 1
+reporting 0
+dynamic 3
+files 0
+";
+    let expected = format!(in alloc; "{counts}{tree}")?;
     assert_shown(
         &rt,
         alloc,
-        Expect::of(alloc, &recorded).report(expected),
+        Expect::of(alloc, &recorded).report(expected.as_str()),
         "--- expected
 +++ actual
-@@ -12,6 +12,6 @@
+@@ -15 +15 @@
    finish|ok
  [engine:e]/[t:1]
    start
@@ -149,6 +153,13 @@ files 0
 +  finish|fail|boom
  [engine:e]/[t:2]
    skip|off
+@@ -8 +8 @@
+ succeeded 1
+ failed 1
+ reporting 0
+-dynamic 3
++dynamic 0
+ files 0
 ",
     );
     Ok(())

@@ -18,6 +18,7 @@ fn recorded_run(fault: RunFault, record: Record, is_complete: bool) -> FailedRun
     FailedRun {
         fault,
         recorded: Some(record),
+        closed: None,
         is_complete,
     }
 }
@@ -97,6 +98,7 @@ fn without_a_record_the_fault_is_shown(rt: HostRuntime) {
     let failed = FailedRun {
         fault: RunFault::Workers,
         recorded: None,
+        closed: None,
         is_complete: false,
     };
     assert_shown(&rt, rt.alloc(), failed, "workers must be 1 to 15\n");

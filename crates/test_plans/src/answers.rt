@@ -1,6 +1,6 @@
 //! What is answered to a plan in code.
 use std::alloc::{AllocError, Global};
-use tk_plan_code::PlanNode;
+use tk_plan_nodes::PlanNode;
 use tk_plan_reading::{BuildFault, build_plan};
 
 // Whether this is the text of the fault.

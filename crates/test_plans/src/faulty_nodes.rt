@@ -1,7 +1,7 @@
 //! The node that a fault of a plan in code names: the first one in preorder that has a fault.
 use crate::answers::is_refused;
 use std::alloc::{AllocError, Global};
-use tk_plan_code::{ExecutionMode, PlanNode};
+use tk_plan_nodes::{ExecutionMode, PlanNode};
 
 type Node = Result<PlanNode<'static>, AllocError>;
 

@@ -2,7 +2,7 @@
 use crate::answers::{is_plan, is_refused};
 use std::alloc::{AllocError, Global};
 use tk_ids::LockMode;
-use tk_plan_code::PlanNode;
+use tk_plan_nodes::PlanNode;
 
 // A test at the bottom of a chain of nodes, `levels` levels in all.
 fn chain(alloc: Global, levels: u32) -> Result<PlanNode<'static>, AllocError> {

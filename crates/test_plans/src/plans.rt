@@ -2,11 +2,10 @@
 use crate::shown_plans::shown;
 use std::alloc::{AllocError, Global};
 use tk_events::Outcome;
-use tk_ids::{LockMode, UniqueId};
-use tk_plan::Plan;
-use tk_plan_code::{ExecutionMode, PlanNode};
-use tk_plan_json_members::PlanFault;
-use tk_plan_reading::{BuildFault, build_plan, read_plan};
+use tk_ids::LockMode;
+use tk_plan_json::PlanFault;
+use tk_plan_nodes::{ExecutionMode, PlanNode};
+use tk_plan_reading::{build_plan, read_plan};
 
 type Node = Result<PlanNode<'static>, AllocError>;
 
@@ -111,50 +110,4 @@ fn nodes_of_long_text(alloc: Global) -> Result<usize, PlanFault> {
 #[test]
 fn more_than_16_mib(rt: HostRuntime) {
     assert!(rt; matches!(nodes_of_long_text(rt.alloc()), Ok(5)));
-}
-
-// A test with the number of its body.
-fn numbered(alloc: Global, value: &'static str, body: u32) -> PlanNode<'static> {
-    PlanNode::test(alloc, ("t", value), value).body(body)
-}
-
-// A plan whose nodes have numbers of bodies that are not in their order.
-fn with_bodies(alloc: Global) -> Node {
-    let tests = vec![in alloc; numbered(alloc, "1", 8), numbered(alloc, "2", 3)]?;
-    let a = PlanNode::container(alloc, ("class", "A"), "A")
-        .children(tests)?
-        .dynamic(numbered(alloc, "3", 9))?;
-    PlanNode::container(alloc, ("engine", "e"), "e")
-        .child(a)?
-        .child(PlanNode::container_and_test(alloc, ("class", "B"), "B").body(0))
-}
-
-// The key of the static node with this id.
-fn key_of(alloc: Global, plan: &Plan, id: &str) -> Option<u32> {
-    match UniqueId::read(alloc, id) {
-        Ok(id) => plan.table().find(&id),
-        Err(_) => None,
-    }
-}
-
-// The number of the body of the node with this id.
-fn body_of(alloc: Global, id: &str) -> Result<Option<u32>, BuildFault> {
-    let root = with_bodies(alloc)?;
-    let bodies = root.bodies(alloc)?;
-    let plan = build_plan(alloc, &root)?;
-    Ok(key_of(alloc, &plan, id).and_then(|key| bodies.at(key)))
-}
-
-#[test]
-fn bodies_of_nodes(rt: HostRuntime) -> Result<(), BuildFault> {
-    let alloc = rt.alloc();
-    for (id, body) in [
-        ("[engine:e]/[class:A]", None),
-        ("[engine:e]/[class:A]/[t:1]", Some(8)),
-        ("[engine:e]/[class:A]/[t:2]", Some(3)),
-        ("[engine:e]/[class:B]", Some(0)),
-    ] {
-        assert!(rt; body_of(alloc, id)? == body, "{id}");
-    }
-    Ok(())
 }

@@ -2,7 +2,7 @@
 //! refused. What is refused is asked once more, and then it has to succeed.
 use crate::plans::each_member;
 use std::alloc::Global;
-use tk_plan_json_members::PlanFault;
+use tk_plan_json::PlanFault;
 use tk_plan_reading::{BuildFault, build_plan};
 
 // Whether the plan was built, where memory was not refused.

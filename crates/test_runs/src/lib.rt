@@ -11,6 +11,8 @@ mod exclusive_runs;
 #[cfg(test)]
 mod faults;
 #[cfg(test)]
+mod meetings;
+#[cfg(test)]
 mod plans;
 #[cfg(test)]
 mod refusals;

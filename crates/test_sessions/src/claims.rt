@@ -2,7 +2,7 @@
 ghost use Rattle.std.specs.Prelude.{◌≡◌};
 
 use std::alloc::Global;
-use tk_engine_runs::{Claim, ClaimFault, ClaimSeat};
+use tk_claims::{Claim, ClaimFault, ClaimSeat};
 
 // Whether this is drawn next.
 fn draws(claim: &Claim, seat: &mut ClaimSeat, number: Option<u32>) -> bool

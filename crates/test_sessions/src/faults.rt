@@ -1,7 +1,7 @@
 //! Faults of books, claims, cores and sessions as texts.
 use std::alloc::Global;
 use test_support::{are_shown, is_shown, start};
-use tk_engine_runs::ClaimFault;
+use tk_claims::ClaimFault;
 use tk_ids::IdFault;
 use tk_locks::BookFault;
 use tk_queue_core::CoreFault;

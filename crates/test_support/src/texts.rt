@@ -12,7 +12,7 @@ pub fn two_tests_report() -> &'static [u8] {
 
 /// The text of a record of two tests with locks. One name has an escape, one is long.
 pub fn two_locked_tests() -> &'static [u8] {
-    b"testkit-record|3\nN|C|[engine:e]|e\nN|T|[engine:e]/[t:1]|one\nN|T|[engine:e]/[t:2]|two\nL|1|R|a\\pb\nL|1|W|db\nL|2|W|a resource with a long name\nL|2|R|db\nE|0|0|0|start\nE|1|1|1|start\nE|1|1|2|finish|ok\nE|0|0|9|finish|ok\n"
+    b"testkit-record|3\nN|C|[engine:e]|e\nN|T|[engine:e]/[t:1]|one\nN|T|[engine:e]/[t:2]|two\nL|1|R|a\\pb\nL|1|W|db\nL|2|W|a resource with a long name\nL|2|R|db\nE|0|0|0|start\nE|1|1|1|start\nE|1|1|2|finish|ok\nE|0|0|9|finish|ok\nZ|4\n"
 }
 
 /// The text of a replay of two workers, in version 1, in which all is taken.

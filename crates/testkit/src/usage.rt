@@ -14,6 +14,7 @@ pub(crate) const USAGE: &str = "usage:
   testkit ask report                                   < RECORD   each id's events, without workers, keys and stamps
   testkit ask explain QUESTION ..                      < RECORD   an answer, and why
   testkit replay                                       < REPLAY   plays the steps of an event queue, prints the record
+  testkit recover                                      < RECORD   prints what stands before a record's first fault
   testkit run [--workers N] [--record]                 < PLAN     runs a plan with 1 to 15 workers, prints its report or its record
 
 SELECTION  all, tests, containers, or a NAME
@@ -21,5 +22,5 @@ NAME       skipped, started, finished, aborted, succeeded, failed, reporting, dy
 MODE       exactly, loosely, in-order
 CONDITION  as test, failed, 'failed(TEXT)', 'all(test,id(TEXT))'; docs/FORMATS.md has all
 QUESTION   the words of match; stats, list, executions, lifecycle, exclusive or locks with its own words
-status     0 done, or yes; 1 no, or an expectation fails; 2 bad words or input; 3 a failure
+status     0 done, or yes; 1 no, a failed expectation, or recovered in part; 2 bad words or input; 3 a failure
 ";

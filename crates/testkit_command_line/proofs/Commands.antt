@@ -103,11 +103,13 @@ fails_by words a is matches kinds = subst (λ (b : App). is_simple_and_free b �
 abbrev IsOther : Job → Type 0
 IsOther (jobs.Ask question) = ⊥
 IsOther jobs.Replay = Unit {0}
+IsOther jobs.Recover = Unit {0}
 IsOther (jobs.Run options) = Unit {0}
 
 other_by_number : (n : Option ℕ) (o : RunOutput) (job : Job) → run_by_number n o ≡ Ok job
     → IsOther job
 other_by_number n o jobs.Replay e = tt
+other_by_number n o jobs.Recover e = tt
 other_by_number n o (jobs.Run options) e = tt
 other_by_number None o (jobs.Ask question) e = cc
 other_by_number (Some n) o (jobs.Ask question) e = cc
@@ -115,27 +117,31 @@ other_by_number (Some n) o (jobs.Ask question) e = cc
 other_by_run : (value : Option (List ℕ)) (o : RunOutput) (job : Job) → run_by value o ≡ Ok job
     → IsOther job
 other_by_run value o jobs.Replay e = tt
+other_by_run value o jobs.Recover e = tt
 other_by_run value o (jobs.Run options) e = tt
 other_by_run None o (jobs.Ask question) e = cc
 other_by_run (Some text) o (jobs.Ask question) e =
     other_by_number (number_of (2 ^ 8) text) o (jobs.Ask question) e
 
-other_by_name : (is_replay is_run : Bool) (value : Option (List ℕ)) (o : RunOutput) (job : Job)
-    → (if is_replay then Ok jobs.Replay else if is_run then run_by value o
+other_by_name : (is_replay is_recover is_run : Bool) (value : Option (List ℕ)) (o : RunOutput) (job : Job)
+    → (if is_replay then Ok jobs.Replay else if is_recover then Ok jobs.Recover else if is_run then run_by value o
     else Err faults.BadWords) ≡ Ok job → IsOther job
-other_by_name is_replay is_run value o jobs.Replay e = tt
-other_by_name is_replay is_run value o (jobs.Run options) e = tt
-other_by_name true is_run value o (jobs.Ask question) e = cc
-other_by_name false true value o (jobs.Ask question) e =
+other_by_name is_replay is_recover is_run value o jobs.Replay e = tt
+other_by_name is_replay is_recover is_run value o jobs.Recover e = tt
+other_by_name is_replay is_recover is_run value o (jobs.Run options) e = tt
+other_by_name true is_recover is_run value o (jobs.Ask question) e = cc
+other_by_name false true is_run value o (jobs.Ask question) e = cc
+other_by_name false false true value o (jobs.Ask question) e =
     other_by_run value o (jobs.Ask question) e
-other_by_name false false value o (jobs.Ask question) e = cc
+other_by_name false false false value o (jobs.Ask question) e = cc
 
 other_by_words : (is_taken : Bool) (o : Option (List ℕ × List Row)) (job : Job) → (if is_taken then job_of_command o else Err faults.BadWords) ≡ Ok job → IsOther job
 other_by_words is_taken o jobs.Replay e = tt
+other_by_words is_taken o jobs.Recover e = tt
 other_by_words is_taken o (jobs.Run options) e = tt
 other_by_words true None (jobs.Ask question) e = cc
 other_by_words true (Some command) (jobs.Ask question) e =
-    other_by_name (bytes_eq command.0 (codes "replay")) (bytes_eq command.0 (codes "run")) (first_of (codes "workers") command.1)
+    other_by_name (bytes_eq command.0 (codes "replay")) (bytes_eq command.0 (codes "recover")) (bytes_eq command.0 (codes "run")) (first_of (codes "workers") command.1)
     (output_by (first_of (codes "record") command.1)) (jobs.Ask question) e
 other_by_words false o (jobs.Ask question) e = cc
 
@@ -147,6 +153,7 @@ is_other words job e = other_by_words (is_empty (fault_of commands words)) (subc
 pub job_is : (words : List (List ℕ)) (result : Result Job CommandLineFault) → IsNoAskLine words → (result ≡ other_job words) ⊎ (result ≡ refusal faults.Memory) → IfOk result (IsJobOf words)
 job_is words (Ok (jobs.Ask question)) none (inl is) = absurd (is_other words (jobs.Ask question) (sym is))
 job_is words (Ok jobs.Replay) none (inl is) = (none, sym is)
+job_is words (Ok jobs.Recover) none (inl is) = (none, sym is)
 job_is words (Ok (jobs.Run options)) none (inl is) = (none, sym is)
 job_is words (Ok job) none (inr is) = cc
 job_is words (Err fault) none h = tt

@@ -56,18 +56,20 @@ record_flag =
 abbrev pub run_command : App
 run_command = with_rule (with_rule (new_app (codes "run")) workers_option) record_flag
 
--- the commands that the command-line crate reads, one of which is wanted: `run` and `replay`
+-- the commands that the command-line crate reads, one of which is wanted: `run`, `replay` and
+-- `recover`
 unfoldable pub commands : App
 commands =
-    with_subcommand (with_subcommand
+    with_subcommand (with_subcommand (with_subcommand
     (on_top (λ s. record s { subcommand_required = true }) (new_app (codes "testkit")))
-    run_command.top) (new_app (codes "replay")).top
+    run_command.top) (new_app (codes "replay")).top) (new_app (codes "recover")).top
 
 -- what a command of this name asks for, with these values of options
 abbrev pub job_of_command : Option (List ℕ × List Row) → Result Job CommandLineFault
 job_of_command None = Err faults.BadWords
 job_of_command (Some command) =
     if bytes_eq command.0 (codes "replay") then Ok jobs.Replay
+    else if bytes_eq command.0 (codes "recover") then Ok jobs.Recover
     else if bytes_eq command.0 (codes "run")
     then run_by (first_of (codes "workers") command.1)
     (output_by (first_of (codes "record") command.1))
@@ -80,7 +82,7 @@ other_job words =
     if is_empty (fault_of commands words) then job_of_command (subcommand_of commands words)
     else Err faults.BadWords
 
--- what follows ask is the question; a replay or a run is no such line
+-- what follows ask is the question; every other job has no such line
 abbrev pub IsJobOf : List (List ℕ) → Job → Type 0
 IsJobOf words (jobs.Ask question) = IsAskLine words (map string_bytes question.now)
 IsJobOf words job = IsNoAskLine words × (other_job words ≡ Ok job)

@@ -25,6 +25,8 @@ pub enum Job<'w> {
     Ask(&'w [String]),
     /// Replay a replay text.
     Replay,
+    /// Recover what stands before the first fault of a record text.
+    Recover,
     /// Run a plan, and write the report or the record of the run.
     Run(RunOptions),
 }

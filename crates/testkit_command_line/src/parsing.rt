@@ -36,7 +36,8 @@ fn command<'w>(alloc: Global) -> Result<Command<'w>, Error>
     let command = Command::new(alloc, "testkit")
         .subcommand_required(true)
         .subcommand(run)?;
-    Ok(command.subcommand(Command::new(alloc, "replay"))?)
+    let command = command.subcommand(Command::new(alloc, "replay"))?;
+    Ok(command.subcommand(Command::new(alloc, "recover"))?)
 }
 
 /// What is written of a run: its record where the flag is there, else its report.
@@ -70,6 +71,7 @@ fn job_of_command<'w>(name: &str, matches: &ArgMatches<'w>) -> Result<Job<'w>, C
 {
     match name {
         "replay" => Ok(Job::Replay),
+        "recover" => Ok(Job::Recover),
         "run" => run_of(matches),
         _ => Err(CommandLineFault::BadWords),
     }

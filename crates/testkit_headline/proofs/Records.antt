@@ -1,5 +1,5 @@
 -- What is counted, filtered and matched of a record, and the report of a plan's bytes.
-use Rattle.std.proofs.Common.{◌≡◌, ◌↔◌, ℕ, zero, suc, ◌+◌, Bool, true, false, true≢false, cond, List, [], ◌∷◌, map, take, filter, All, Option, Some, Result, Ok, Err, OnOk, sym, refl, ap, subst}
+use Rattle.std.proofs.Common.{◌≡◌, ◌↔◌, ℕ, zero, suc, ◌+◌, Bool, true, false, true≢false, cond, List, [], ◌∷◌, map, take, filter, All, Option, Some, Result, Ok, Err, OnOk, sym, refl, ap, subst, ◌∙◌}
 use Rattle.std.specs.Io.KnownBytes.{Appends}
 use Rattle.std.proofs.lemmas.List.Elements.{All-from_recursion}
 use Rattle.tk_events.specs.declared.events.Entry.{Entry}
@@ -13,6 +13,9 @@ use Rattle.tk_query.specs.declared.answers.InOrder.TheVariants.{Yes, No}
 use Rattle.tk_query.specs.Asked.{fits}
 use Rattle.tk_query.specs.InOrder.{HoldInTurn, CanHoldInTurn}
 use Rattle.tk_query.specs.Matches.{IsInOrder}
+use Rattle.tk_plan.specs.Trees.{Tree}
+use Rattle.tk_plan_json.specs.declared.faults.PlanFault.{PlanFault}
+use Rattle.tk_plan_reading.specs.PlanAnswers.{plan_in}
 use Rattle.tk_plan_runs.specs.Answers.{plan_text, IsReported}
 use Rattle.tk_query.specs.AnswerTexts.{in_order_yes}
 use Rattle.tk_plan_runs.specs.declared.faults.ReportFault.{ReportFault}
@@ -79,3 +82,19 @@ pub reported_on :
     → OnOk answer ((text : List ℕ) × (report_in bytes ≡ Some text) × Appends old new text)
 reported_on bytes workers old new (Ok u) h = reported bytes workers old new h
 reported_on bytes workers old new (Err fault) h = tt
+
+-- a result has a report exactly where it is a plan
+of_tree :
+    (r : Result Tree PlanFault) (text : List ℕ)
+    → (report_of r ≡ Some text) ↔ ((t : Tree) × (r ≡ Ok t) × (plan_text t ≡ text))
+of_tree (Ok t) text = (
+  λ e. (t, refl, (cc)),
+  λ h. (let same : t ≡ h.0 = cc in ap (λ (x : Tree). Some (plan_text x)) same ∙ ap Some h.2),
+)
+of_tree (Err fault) text = ((λ e. (cc)), (λ h. let no = h.1 in (cc)))
+
+pub of_the_plan :
+    (bytes text : List ℕ)
+    → (report_in bytes ≡ Some text)
+    ↔ ((t : Tree) × (plan_in bytes ≡ Ok t) × (plan_text t ≡ text))
+of_the_plan bytes text = of_tree (plan_in bytes) text

@@ -1,6 +1,6 @@
 -- What the state of a session comes to.
-use Rattle.std.proofs.Common.{◌≡◌, ◌≢◌, ◌==◌, ℕ, Bool, true, false, ◌||◌, if◌then◌else◌, true≢false, List, [], ◌∷◌, ◌++◌, All, sym, refl, ap, ◌∙◌, subst, ⊎_elim, append_assoc, append-nil, eq-eqb, ne_eqb}
-use Rattle.std.proofs.lemmas.Bool.{cases_eq}
+use Rattle.std.proofs.Common.{◌≡◌, ◌≢◌, ◌↔◌, ◌==◌, ℕ, Bool, true, false, ◌||◌, if◌then◌else◌, true≢false, List, [], ◌∷◌, ◌++◌, All, sym, refl, ap, ◌∙◌, subst, ⊎_elim, append_assoc, append-nil, eq-eqb, ne_eqb}
+use Rattle.std.proofs.lemmas.Bool.{cases_eq, or_left}
 use Rattle.std.proofs.lemmas.List.Elements.{All-nil, All-cons}
 use Rattle.tk_events.specs.declared.events.Event.{Event}
 use Rattle.tk_record.specs.Mixing.{IsWorkerOf, of_worker, Mix}
@@ -9,7 +9,7 @@ use Rattle.tk_queue_core.specs.declared.items.Item.TheVariants.{Entry as Emitted
 use Rattle.tk_queue_core.specs.Core.{Core, IsCore, worker_of, items_of, entries, script}
 use Rattle.tk_queue_core.proofs.CoreSteps.{filter-append}
 use Rattle.tk_queue_session.specs.Marks.{is_marked}
-use Rattle.tk_queue_session.proofs.SharedSteps.{append_cons_ne_nil, holder_worker, events_in, events_among, events_scripted}
+use Rattle.tk_queue_session.proofs.SharedSteps.{append_cons_ne_nil, holder_worker, events_in, events_among, events_scripted, marked_among}
 use Rattle.tk_queue_session.specs.Senders.{SenderView}
 use Rattle.tk_queue_session.specs.Receivers.{ReceiverView}
 use Rattle.tk_queue_session.specs.Tokens.{sent_by}
@@ -105,7 +105,7 @@ all_workers n c k before (End w ∷ xs) whole =
     all_workers n c k (before ++ End w ∷ []) xs
     (whole ∙ sym (append_assoc before (End w ∷ []) xs))
 
-pub mixes : (n : ℕ) (c : Core) → IsCore n c → Completes n c → Mix n (entries c.taken) c.sent
+pub mixes : (n : ℕ) (c : Core) → IsCore n c → Completes n c.taken → Mix n (entries c.taken) c.sent
 mixes n c k completes = record {
   workers = all_workers n c k [] c.taken refl;
   each = λ w is. taken_is_sent n w c k (completes w is);
@@ -121,3 +121,62 @@ pub ends_with_marks :
     → NothingAfterMarks r.workers r.taken
 ends_with_marks r tokens ends w before after worker is =
     after_mark w (sent_by tokens w) true r.taken before after (ends w worker) is
+
+-- the items of a worker that has a mark, and nothing after it, are events and then the mark
+scripted :
+    (w : ℕ) (xs : List Item) → is_marked w xs ≡ true
+    → ((before after : List Item) → xs ≡ before ++ End w ∷ after → items_of w after ≡ [])
+    → (es : List Event) × (items_of w xs ≡ script w es true)
+scripted w [] marked last = absurd (true≢false (sym marked))
+scripted w (Emitted e ∷ xs) marked last =
+    let rest = scripted w xs marked
+    (λ before after is. last (Emitted e ∷ before) after (ap (λ l. Emitted e ∷ l) is)) in
+    ⊎_elim {C = (es : List Event) × (items_of w (Emitted e ∷ xs) ≡ script w es true)}
+    (λ (same : e.worker ≡ w). (
+      e.event ∷ rest.0,
+      ap (λ (b : Bool). if b then Emitted e ∷ items_of w xs else items_of w xs)
+          (eq-eqb e.worker w same)
+          ∙ (λ i. Emitted (record { worker = same i; event = e.event }) ∷ rest.1 i),
+    ))
+    (λ (apart : e.worker ≢ w). (
+      rest.0,
+      ap (λ (b : Bool). if b then Emitted e ∷ items_of w xs else items_of w xs)
+          (ne_eqb e.worker w apart)
+          ∙ rest.1,
+    ))
+    (cases_eq e.worker w)
+scripted w (End v ∷ xs) marked last =
+    ⊎_elim {C = (es : List Event) × (items_of w (End v ∷ xs) ≡ script w es true)}
+    (λ (same : v ≡ w). (
+      [],
+      ap (λ (b : Bool). if b then End v ∷ items_of w xs else items_of w xs) (eq-eqb v w same)
+          ∙ (λ i. End (same i) ∷ last [] xs (ap (λ u. End u ∷ xs) same) i),
+    ))
+    (λ (apart : v ≢ w).
+    let no = ap (λ (b : Bool). b || is_marked w xs) (ne_eqb v w apart) in
+    let rest = scripted w xs (sym no ∙ marked)
+    (λ before after is. last (End v ∷ before) after (ap (λ l. End v ∷ l) is)) in (
+      rest.0,
+      ap (λ (b : Bool). if b then End v ∷ items_of w xs else items_of w xs) (ne_eqb v w apart)
+          ∙ rest.1,
+    ))
+    (cases_eq v w)
+
+-- a script with a mark is marked
+marked_script : (w : ℕ) (es : List Event) → is_marked w (script w es true) ≡ true
+marked_script w [] = or_left (w == w) false (eq-eqb w w refl)
+marked_script w (e ∷ es) = marked_script w es
+
+pub marks :
+    (n : ℕ) (items : List Item)
+    → (Completes n items × NothingAfterMarks n items)
+    ↔ ((w : ℕ) → IsWorkerOf n w
+    → (es : List Event) × (items_of w items ≡ script w es true))
+marks n items = (
+  λ both w own. scripted w items (both.0 w own) (λ before after is. both.1 w before after own is),
+  λ each. (
+    λ w own. sym (marked_among w items) ∙ ap (is_marked w) (each w own).1
+        ∙ marked_script w (each w own).0,
+    λ w before after own is. after_mark w (each w own).0 true items before after (each w own).1 is,
+  ),
+)

@@ -1,11 +1,10 @@
 -- The headline of README.md as one theorem: each field has a part of it as its comment. What a
 -- field speaks of is what the code's own rules say between any two atomic steps, in every schedule:
 -- a `Session` of the queue between workers and receiver, a word of a lock book with the notes of
--- all its seats (`HoldingsFitWord`), the parts of which the record of a run is made (`IsRun`).
+-- all its seats (`HoldingsFitWord`).
 use Rattle.std.specs.Prelude.{◌≡◌, ◌↔◌, ℕ, true, List, ◌++◌, filter, All, Option, Ok, Some}
 use Rattle.std.specs.Io.KnownBytes.{Appends}
 use Rattle.atomic_table.specs.Table.{State}
-use Rattle.tk_events.specs.declared.events.Entry.{Entry}
 use Rattle.tk_events.specs.declared.events.Event.{Event}
 use Rattle.tk_record.specs.Recorded.{Recorded}
 use Rattle.tk_record.specs.Mixing.{Mix}
@@ -38,7 +37,7 @@ pub record Headline : Type 0 where
   -- once, in that worker's order,
   pub each_event_exactly_once_in_order :
       (items : List Item) (views : List PassView) (s : Session items views)
-      → Completes s.layout.workers s.core
+      → Completes s.layout.workers s.core.taken
       → Mix s.layout.workers (entries s.core.taken) s.core.sent
   -- and nothing of a worker after its end mark.
   pub nothing_of_a_worker_after_its_end_mark :
@@ -46,9 +45,10 @@ pub record Headline : Type 0 where
       → NothingAfterMarks s.layout.workers (s.core.taken ++ s.core.waiting)
   -- A run's record holds those events, between the ones before and after its units.
   pub a_runs_record_holds_those_events :
-      (before after : List Event) (workers : ℕ) (mid : List Entry) (lists : ℕ → List Event)
-      (r : Recorded) → r.entries ≡ entries_by 0 before ++ mid ++ entries_by 0 after
-      → Mix workers mid lists → HoldsWhatWasSent before after workers lists r
+      (items : List Item) (views : List PassView) (s : Session items views)
+      (before after : List Event) (r : Recorded) → Completes s.layout.workers s.core.taken
+      → r.entries ≡ entries_by 0 before ++ entries s.core.taken ++ entries_by 0 after
+      → HoldsWhatWasSent before after s.layout.workers s.core.sent r
   -- Every statistic equals plain counting of that record,
   pub every_statistic_equals_plain_counting :
       (asked : Selected) → All (IsCount asked) (statistic_rows (statistics_of (events_of asked)))

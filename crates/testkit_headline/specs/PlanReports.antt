@@ -1,7 +1,7 @@
 -- The report of a plan as a function of its bytes.
 use Rattle.std.specs.Prelude.{ℕ, List, Option, Some, None, Result, Ok, Err}
 use Rattle.tk_plan.specs.Trees.{Tree}
-use Rattle.tk_plan_json_members.specs.declared.faults.PlanFault.{PlanFault}
+use Rattle.tk_plan_json.specs.declared.faults.PlanFault.{PlanFault}
 use Rattle.tk_plan_reading.specs.PlanAnswers.{plan_in}
 use Rattle.tk_plan_runs.specs.Answers.{plan_text}
 

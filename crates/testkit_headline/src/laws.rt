@@ -1,6 +1,6 @@
-//! The theorem as a whole, and each of its parts as what the call promises that carries it: where a
-//! clause of that call says less, the proof of the part is refused here.
-ghost use Rattle.std.specs.Prelude.{◌≡◌, ◌↔◌, ℕ, true, All, IfOk, IfSome, List, OnOk, Option, Some, filter, map, slice_get, string_bytes, sum_by};
+//! The theorem as a whole, and each of its parts as what the call promises that carries it: without
+//! the clause of that call, the proof of the part is refused here.
+ghost use Rattle.std.specs.Prelude.{◌≡◌, ◌↔◌, ℕ, ◌+◌, ◌∷◌, true, All, IfOk, IfSome, List, OnOk, Option, Some, filter, length, map, slice_get, string_bytes, sum_by};
 ghost use Rattle.std.specs.Io.KnownBytes.{Appends};
 ghost use Rattle.tk_record.specs.Mixing.{Mix};
 ghost use Rattle.tk_record.specs.Selections.{events_of, selects};
@@ -14,9 +14,10 @@ ghost use Rattle.tk_queue_core.specs.Core.{entries};
 ghost use Rattle.tk_queue_session.specs.Closing.{sent_in};
 ghost use Rattle.testkit_headline.specs.Answers.{IsTheAnswer};
 ghost use Rattle.testkit_headline.specs.Counting.{IsCount};
+ghost use Rattle.testkit_headline.specs.Exactness.{Exactness};
 ghost use Rattle.testkit_headline.specs.Headline.{Headline};
 ghost use Rattle.testkit_headline.specs.PlanReports.{report_in};
-ghost use Rattle.testkit_headline.specs.Recordings.{HoldsWhatWasSent, NothingAfterMarks};
+ghost use Rattle.testkit_headline.specs.Recordings.{Completes, HoldsWhatWasSent, NothingAfterMarks};
 ghost use Rattle.testkit_headline.specs.Witnesses.{Witnesses};
 
 use std::alloc::{AllocError, Global};
@@ -24,8 +25,8 @@ use std::sync::Wait;
 use std::thread::Threads;
 use testkit_questions::laws::answer_is_unique;
 use testkit_questions::{AskFault, ask};
+use tk_claims::laws::each_worker_has_its_list;
 use tk_engine_execute::{Engine, Results, RunFault, execute};
-use tk_engine_runs::laws::each_worker_has_its_list;
 use tk_locks::laws::writers_are_alone;
 use tk_locks::{Book, BookSeat};
 use tk_plan_runs::{ReportFault, plan_report};
@@ -39,7 +40,6 @@ use tk_streams::{Source, Target};
 pub fn headline()
     ensures { Headline }
 {
-    each_worker_has_its_list();
     writers_are_alone();
     answer_is_unique();
 }
@@ -47,10 +47,19 @@ pub fn headline()
 /// Shows with numbers that the words of the headline are met, and that they refuse.
 pub fn witnesses()
     ensures { Witnesses }
-{}
+{
+    each_worker_has_its_list();
+}
 
-/// Closes a session: what was taken holds each event that each worker sent exactly once, in that
-/// worker's order, and nothing of a worker after its end mark.
+/// Shows that the words of the headline say neither less nor more than they should.
+pub fn exactness()
+    ensures { Exactness }
+{
+    each_worker_has_its_list();
+}
+
+/// Closes a session: its recording completes, and what was taken holds each event that each worker
+/// sent exactly once, in that worker's order, and nothing of a worker after its end mark.
 ///
 /// # Errors
 /// As [`Receiver::close`].
@@ -58,6 +67,7 @@ pub fn close_session(receiver: Receiver, ended: Vec<Ended>) -> Result<Closed, Cl
     requires { All (λ token. token.session ≡ receiver.session) ended.items }
     ensures sent { IfOk result (λ closed.
         Mix receiver.workers (entries receiver.taken) (sent_in closed)) }
+    ensures completes { OnOk result (Completes receiver.workers receiver.taken) }
     ensures marks { OnOk result (NothingAfterMarks receiver.workers receiver.taken) }
 {
     receiver.close(ended)
@@ -119,15 +129,28 @@ pub fn match_events(
     match_in_order(alloc, events, conditions)
 }
 
-/// Reads a book's word: it is the sum of what its seats held at that moment, of which no resource
-/// had a writer beside another holder.
+/// Reads a book's word: it is the sum of what this seat and each other seat of the book held at that
+/// moment, of which no resource had a writer beside another holder.
 pub fn read_locks(book: &Book, seat: &mut BookSeat) -> u64
     requires { seat.old.book ≡ book.now }
-    ensures { (held : List (Option NeedView)) × (result ≡ sum_by held_word held)
-        × WritersAreAlone held }
+    ensures { (others : List (Option NeedView)) × (length others + 1 ≡ book.now.seats)
+        × (result ≡ sum_by held_word (seat.old.holds ∷ others))
+        × WritersAreAlone (seat.old.holds ∷ others) }
 {
     writers_are_alone();
     book.look(seat)
+}
+
+/// Closes a book: its last word is the sum of what the seats hold that are handed in, of which no
+/// resource has a writer beside another holder.
+pub fn close_locks(book: Book, seats: Vec<BookSeat>) -> u64
+    requires all { length seats.items ≡ book.seats }
+    requires of_this { All (λ seat. seat.book ≡ book) seats.items }
+    ensures word { result ≡ sum_by held_word (map (λ seat. seat.holds) seats.items) }
+    ensures alone { WritersAreAlone (map (λ seat. seat.holds) seats.items) }
+{
+    writers_are_alone();
+    book.into_word(seats)
 }
 
 /// Asks a question: what is written is the one answer that its words have about the input.

@@ -1,4 +1,5 @@
 mod Loads
+mod Recovers
 mod Replays
 mod Runs
 mod Wanted

@@ -20,7 +20,7 @@ use Rattle.testkit_program.specs.declared.faults.Fault.{Fault}
 use Rattle.testkit_program.specs.declared.faults.Fault.TheVariants as faults
 use Rattle.testkit_program.specs.Jobs.{Devices, IsBroken, IsDone, IsOfWords, IsRefused}
 use Rattle.testkit_program.specs.Jobs.{IsReportFault, OfOptions, OfOutput, Transfer, transfer}
-use Rattle.testkit_program.specs.steps.{IsPlanOutcome, IsRunOutcome, output_text}
+use Rattle.testkit_program.specs.steps.{HasOutput, IsPlanOutcome, IsRunOutcome, output_text}
 use Rattle.testkit_program.proofs.Loads.{load_broken, load_refused}
 
 -- all bytes of a source were loaded, where its bytes are known
@@ -36,31 +36,34 @@ of_input (Some all) bytes P is p = subst P is p
 -- what was written of a run of the plan is what is to be written of the plan
 plan_text : (output : RunOutput) (bytes : List ℕ) (workers : ℕ) (old new : Option (List ℕ))
     (run : PlanRun) (result : Result (Unit {0}) ReportFault) → IsRunOfPlan bytes workers run
-    → IsRunText (output_text output run.results.recorded) old new result
+    → HasOutput output run.results.recorded → IsRunText (output_text output run.results.recorded) old new result
     → IsPlanText (OfOutput output workers bytes) bytes workers old new result
-plan_text outputs.Report bytes workers old new run result of h =
+plan_text outputs.Report bytes workers old new run result of has h =
     reported bytes workers old new run result of h
-plan_text outputs.Record bytes workers old new run result of h =
-    recorded bytes workers old new run result of h
+plan_text outputs.Record bytes workers old new run result of has h =
+    recorded bytes workers old new run result of has h
 
 pub plan_outcome : (bytes : List ℕ) (options : RunOptions) (old new : Option (List ℕ))
     (run : Result PlanRun ReportFault) (result : Result Bool Fault)
     → IsPlanRun bytes options.workers run
     → IfErr run (λ fault. result ≡ Err (faults.Report fault))
+    → IfOk run (λ run. HasOutput options.output run.results.recorded)
     → IfOk run (λ run. IsRunOutcome (output_text options.output run.results.recorded) old new
     result) → IsPlanOutcome bytes options old new result
-plan_outcome bytes options old new (Err fault) result of is outcome =
+plan_outcome bytes options old new (Err fault) result of is has outcome =
     subst (IsPlanOutcome bytes options old new) (sym is)
     (not_reported (OfOptions options bytes) bytes options.workers old new fault of)
-plan_outcome bytes options old new (Ok run) (Ok is_yes) of is outcome =
-    (outcome.0, plan_text options.output bytes options.workers old new run (Ok tt) of outcome.1)
-plan_outcome bytes options old new (Ok run) (Err (faults.Report fault)) of is outcome =
-    plan_text options.output bytes options.workers old new run (Err fault) of outcome
-plan_outcome bytes options old new (Ok run) (Err faults.CommandLine) of is outcome = absurd outcome
-plan_outcome bytes options old new (Ok run) (Err (faults.Ask fault)) of is outcome = absurd outcome
-plan_outcome bytes options old new (Ok run) (Err (faults.Replay fault)) of is outcome = absurd outcome
-plan_outcome bytes options old new (Ok run) (Err (faults.Load fault)) of is outcome = absurd outcome
-plan_outcome bytes options old new (Ok run) (Err faults.Memory) of is outcome = absurd outcome
+plan_outcome bytes options old new (Ok run) (Ok is_yes) of is has outcome =
+    (outcome.0, plan_text options.output bytes options.workers old new run (Ok tt) of has outcome.1)
+plan_outcome bytes options old new (Ok run) (Err (faults.Report fault)) of is has outcome =
+    plan_text options.output bytes options.workers old new run (Err fault) of has outcome
+plan_outcome bytes options old new (Ok run) (Err faults.CommandLine) of is has outcome = absurd outcome
+plan_outcome bytes options old new (Ok run) (Err (faults.Ask fault)) of is has outcome = absurd outcome
+plan_outcome bytes options old new (Ok run) (Err (faults.Replay fault)) of is has outcome = absurd outcome
+plan_outcome bytes options old new (Ok run) (Err (faults.Recover fault)) of is has outcome = absurd outcome
+plan_outcome bytes options old new (Ok run) (Err (faults.Recovered fault)) of is has outcome = absurd outcome
+plan_outcome bytes options old new (Ok run) (Err (faults.Load fault)) of is has outcome = absurd outcome
+plan_outcome bytes options old new (Ok run) (Err faults.Memory) of is has outcome = absurd outcome
 
 -- the target is written only after the run, so it breaks only then
 pub broken_target : (bytes : List ℕ) (workers : ℕ) (run : Result PlanRun ReportFault) (result : Result Bool Fault) (Broken : Type 0) → IsPlanRun bytes workers run
@@ -112,6 +115,8 @@ module _ {A : Type 0} (items : A → List ℕ) (options : RunOptions) (input lef
   run_refused (Ok bytes) (Err faults.CommandLine) all within large is outcome = absurd outcome
   run_refused (Ok bytes) (Err (faults.Ask fault)) all within large is outcome = absurd outcome
   run_refused (Ok bytes) (Err (faults.Replay fault)) all within large is outcome = absurd outcome
+  run_refused (Ok bytes) (Err (faults.Recover fault)) all within large is outcome = absurd outcome
+  run_refused (Ok bytes) (Err (faults.Recovered fault)) all within large is outcome = absurd outcome
   run_refused (Ok bytes) (Err (faults.Load fault)) all within large is outcome = absurd outcome
   run_refused (Ok bytes) (Err faults.Memory) all within large is outcome = absurd outcome
 
@@ -128,6 +133,8 @@ module _ {A : Type 0} (items : A → List ℕ) (options : RunOptions) (input lef
   run_broken d (Ok bytes) (Err faults.CommandLine) source target is outcome = absurd outcome
   run_broken d (Ok bytes) (Err (faults.Ask fault)) source target is outcome = absurd outcome
   run_broken d (Ok bytes) (Err (faults.Replay fault)) source target is outcome = absurd outcome
+  run_broken d (Ok bytes) (Err (faults.Recover fault)) source target is outcome = absurd outcome
+  run_broken d (Ok bytes) (Err (faults.Recovered fault)) source target is outcome = absurd outcome
   run_broken d (Ok bytes) (Err (faults.Load fault)) source target is outcome = absurd outcome
   run_broken d (Ok bytes) (Err faults.Memory) source target is outcome = absurd outcome
 
@@ -143,6 +150,8 @@ run_unread options t (Ok is_yes) Same refused = tt
 run_unread options t (Err faults.CommandLine) Same refused = absurd refused
 run_unread options t (Err (faults.Ask fault)) Same refused = absurd refused
 run_unread options t (Err (faults.Replay fault)) Same refused = absurd refused
+run_unread options t (Err (faults.Recover fault)) Same refused = absurd refused
+run_unread options t (Err (faults.Recovered fault)) Same refused = absurd refused
 run_unread options t (Err (faults.Load fault)) Same refused = λ of_words. absurd of_words
 run_unread options t (Err (faults.Report fault)) Same refused = λ of_words. absurd of_words
 run_unread options t (Err faults.Memory) Same refused = absurd refused

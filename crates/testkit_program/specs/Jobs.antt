@@ -1,5 +1,6 @@
 -- What doing a job of the program answers, and what was written then.
-use Rattle.std.specs.Prelude.{◌≡◌, ◌<◌, ◌≤◌, ◌⊎◌, ℕ, Bool, true, List, Option, Err, IfSome, length}
+use Rattle.std.specs.Prelude.{◌≡◌, ◌<◌, ◌≤◌, ◌⊎◌, ℕ, Bool, true, List, Option, Some, None, Ok, Err}
+use Rattle.std.specs.Prelude.{IfSome, length}
 use Rattle.std.specs.Prelude.{map, string_bytes}
 use Rattle.std.specs.Io.KnownBytes.{Appends}
 use Rattle.testkit_command_line.specs.declared.jobs.Job.{Job}
@@ -12,7 +13,11 @@ use Rattle.testkit_command_line.specs.declared.faults.CommandLineFault.{CommandL
 use Rattle.testkit_program.specs.Statuses.{fault_of_line}
 use Rattle.testkit_program.specs.declared.faults.Fault.{Fault}
 use Rattle.testkit_program.specs.declared.faults.Fault.TheVariants as faults
+use Rattle.tk_record.specs.Recorded.{Recorded}
+use Rattle.tk_record_text.specs.Text.{IsAnswerSoFar, text_in}
+use Rattle.tk_record_text.specs.declared.reading.ReadFault.{ReadFault}
 use Rattle.tk_record_text.specs.declared.reading.ReadFault.TheVariants as reads
+use Rattle.tk_record_text.specs.declared.versions.Version.TheVariants.{Three}
 use Rattle.testkit_questions.specs.declared.faults.AskFault.{AskFault}
 use Rattle.testkit_questions.specs.declared.faults.AskFault.TheVariants as asks
 use Rattle.tk_queue_replay.specs.declared.replays.ReplayFault.{ReplayFault}
@@ -55,12 +60,19 @@ abbrev pub IsPlanDone : RunOptions → Transfer → Type 0
 IsPlanDone options t =
     IfLoaded t (λ bytes. OfOptions options bytes (Appends t.old t.new)) × MayWork options.workers
 
+-- `Written` holds of the text in version 3 of the record of the lines before the fault of the
+-- input, or of all its lines where there is none
+abbrev pub IsRecovered : Transfer → Option ReadFault → (List ℕ → Type 0) → Type 0
+IsRecovered t fault Written = IfSome t.input (λ bytes.
+    (r : Recorded) × IsAnswerSoFar bytes (Ok (r, fault)) × Written (text_in Three r))
+
 -- what doing a job writes, and whether it is a yes
 abbrev pub IsDone : Job → Transfer → Bool → Type 0
 IsDone (jobs.Ask question) t is_yes =
     IfSome t.input (λ bytes. AddsAnswer (map string_bytes question.now) bytes is_yes t.old t.new)
 IsDone jobs.Replay t is_yes =
     (is_yes ≡ true) × IfLoaded t (λ bytes. IsWritten bytes t.old t.new)
+IsDone jobs.Recover t is_yes = (is_yes ≡ true) × IsRecovered t None (Appends t.old t.new)
 IsDone (jobs.Run options) t is_yes = (is_yes ≡ true) × IsPlanDone options t
 
 -- why a question is not answered; at a broken device a prefix of the answer was written
@@ -80,6 +92,12 @@ IsReplayFault t replays.Device = IsPartlyReplayed t
 IsReplayFault t fault =
     IfSome t.input (λ bytes. IsPlayedAs bytes (Err fault)) × IsPartlyReplayed t
 
+-- Why nothing is recovered of a record text. At a broken device nothing was written, or a prefix.
+abbrev pub IsRecoverFault : Transfer → ReadFault → Type 0
+IsRecoverFault t reads.Device =
+    (t.new ≡ t.old) ⊎ ((fault : Option ReadFault) × IsRecovered t fault (AppendsPrefix t.old t.new))
+IsRecoverFault t fault = IfSome t.input (λ bytes. IsAnswerSoFar bytes (Err fault))
+
 -- Why nothing, or a part, is written of a plan that is run so. The number of workers is judged
 -- after the plan.
 abbrev pub IsReportFault : RunOptions → Transfer → ReportFault → Type 0
@@ -98,11 +116,14 @@ IsOfWords (faults.Ask fault) = asked.IsOfWords fault
 IsOfWords _ = ⊥
 
 -- The fault may come in writing, after a part of the text went out: a broken target, or memory that
--- a replay was refused. At any other fault nothing was written.
+-- a replay was refused. After what was recovered the fault of the input comes. At any other fault
+-- nothing was written.
 abbrev pub IsInWriting : Fault → Type 0
 IsInWriting (faults.Ask asks.Device) = Unit {0}
 IsInWriting (faults.Replay replays.Device) = Unit {0}
 IsInWriting (faults.Replay replays.Memory) = Unit {0}
+IsInWriting (faults.Recover reads.Device) = Unit {0}
+IsInWriting (faults.Recovered fault) = Unit {0}
 IsInWriting (faults.Report reports.Device) = Unit {0}
 IsInWriting _ = ⊥
 
@@ -111,6 +132,9 @@ abbrev pub IsRefused : Job → Transfer → Fault → Type 0
 IsRefused (jobs.Ask question) t (faults.Ask fault) =
     IsAskFault (map string_bytes question.now) t fault
 IsRefused jobs.Replay t (faults.Replay fault) = IsReplayFault t fault
+IsRefused jobs.Recover t (faults.Recover fault) = IsRecoverFault t fault
+IsRefused jobs.Recover t (faults.Recovered fault) =
+    IsRecovered t (Some fault) (Appends t.old t.new)
 IsRefused (jobs.Run options) t (faults.Load loads.TooLarge) =
     IfSome t.input (λ bytes. MAX_TEXT < length bytes)
 IsRefused (jobs.Run options) t (faults.Load fault) = Unit {0}
@@ -133,6 +157,7 @@ IsBroken d t (faults.Ask (asks.Read reads.Device)) = d.source ≡ true
 IsBroken d t (faults.Ask asks.Device) = d.target ≡ true
 IsBroken d t (faults.Replay replays.Device) =
     (d.source ≡ true) ⊎ ((d.target ≡ true) × IfSome t.input Plays)
+IsBroken d t (faults.Recover reads.Device) = (d.source ≡ true) ⊎ (d.target ≡ true)
 IsBroken d t (faults.Load loads.Device) = d.source ≡ true
 IsBroken d t (faults.Report reports.Device) = d.target ≡ true
 IsBroken d t _ = Unit {0}

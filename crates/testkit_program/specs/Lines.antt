@@ -3,6 +3,7 @@ use Rattle.std.specs.Prelude.{ℕ, List, ◌∷◌, ◌++◌, [], codes}
 use Rattle.std.specs.Fmt.{decimal}
 use Rattle.testkit_questions.specs.Characters.{line_feed}
 use Rattle.tk_streams.specs.FaultTexts.{load_fault_text}
+use Rattle.tk_record_text.specs.FaultTexts.{read_fault_text}
 use Rattle.tk_queue_replay.specs.FaultTexts.{replay_fault_text}
 use Rattle.tk_plan_runs.specs.FaultTexts.{report_fault_text}
 use Rattle.testkit_questions.specs.FaultTexts.{ask_fault_text}
@@ -21,6 +22,8 @@ abbrev pub fault_text : Fault → List ℕ
 fault_text faults.CommandLine = codes "bad command line"
 fault_text (faults.Ask fault) = ask_fault_text fault
 fault_text (faults.Replay fault) = replay_fault_text fault
+fault_text (faults.Recover fault) = read_fault_text fault
+fault_text (faults.Recovered fault) = read_fault_text fault
 fault_text (faults.Load fault) = load_fault_text fault
 fault_text (faults.Report fault) = report_text fault
 fault_text faults.Memory = codes "out of memory"

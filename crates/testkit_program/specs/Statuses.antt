@@ -9,7 +9,7 @@ use Rattle.tk_query_conditions.specs.declared.faults.CondFault.TheVariants as co
 use Rattle.testkit_questions.specs.declared.faults.AskFault.TheVariants as asks
 use Rattle.tk_queue_replay.specs.declared.replays.ReplayFault.TheVariants as replays
 use Rattle.tk_streams.specs.declared.transfers.LoadFault.TheVariants as loads
-use Rattle.tk_plan_json_members.specs.declared.faults.PlanFault.TheVariants as plans
+use Rattle.tk_plan_json.specs.declared.faults.PlanFault.TheVariants as plans
 use Rattle.tk_engine_execute.specs.declared.run_faults.RunFault.TheVariants as runs
 use Rattle.tk_plan_runs.specs.declared.faults.ReportFault.TheVariants as reports
 
@@ -19,7 +19,7 @@ fault_of_line lines.BadWords = faults.CommandLine
 fault_of_line lines.Memory = faults.Memory
 
 -- the exit status of a fault: 3 where a device, memory, a thread or a unit failed, 2 where the
--- words or the input are bad
+-- words or the input are bad, 1 where what stands before the fault was recovered
 abbrev pub status_of : Fault → ℕ
 status_of faults.Memory = 3
 status_of (faults.Ask asks.Device) = 3
@@ -29,6 +29,9 @@ status_of (faults.Ask (asks.Read reads.Device)) = 3
 status_of (faults.Ask (asks.Read reads.Memory)) = 3
 status_of (faults.Replay replays.Device) = 3
 status_of (faults.Replay replays.Memory) = 3
+status_of (faults.Recover reads.Device) = 3
+status_of (faults.Recover reads.Memory) = 3
+status_of (faults.Recovered fault) = 1
 status_of (faults.Load loads.Device) = 3
 status_of (faults.Load loads.Memory) = 3
 status_of (faults.Report reports.Device) = 3

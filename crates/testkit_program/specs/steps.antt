@@ -5,7 +5,8 @@ use Rattle.testkit_command_line.specs.declared.jobs.RunOutput.{RunOutput}
 use Rattle.testkit_program.specs.Jobs.{OfOptions}
 use Rattle.testkit_program.specs.declared.faults.Fault.{Fault}
 use Rattle.tk_record.specs.Recorded.{Recorded}
-use Rattle.tk_record_text.specs.Text.{text}
+use Rattle.tk_record_text.specs.Text.{HasTextIn, text_in}
+use Rattle.tk_record_text.specs.declared.versions.Version.TheVariants.{Three}
 use Rattle.tk_report_text.specs.Reports.{report_of_record}
 use Rattle.tk_plan_runs.specs.Answers.{IsPlanText, IsRunText}
 use Rattle.testkit_command_line.specs.declared.jobs.RunOutput.TheVariants as outputs
@@ -14,7 +15,12 @@ use Rattle.testkit_program.specs.declared.faults.Fault.TheVariants as faults
 -- what is written of a run that has this record
 abbrev pub output_text : RunOutput → Recorded → List ℕ
 output_text outputs.Report r = report_of_record r
-output_text outputs.Record r = text r
+output_text outputs.Record r = text_in Three r
+
+-- the record has what is written of it, as each record has a report
+abbrev pub HasOutput : RunOutput → Recorded → Type 0
+HasOutput outputs.Report r = Unit {0}
+HasOutput outputs.Record r = HasTextIn Three r
 
 -- What writing a text of a run answers: a yes, or why the text was not written. No fault of another
 -- kind is answered.

@@ -1,12 +1,12 @@
 //! The faults of the program, and their statuses.
 ghost use Rattle.std.specs.Prelude.{◌≡◌};
 ghost use Rattle.testkit_program.specs.Statuses.{fault_of_line, status_of, wants_usage};
-ghost use Rattle.testkit_program.specs.declared.faults.Fault.TheVariants.{Ask, Replay, Load, Report};
+ghost use Rattle.testkit_program.specs.declared.faults.Fault.TheVariants.{Ask, Replay, Recover, Load, Report};
 
 use testkit_command_line::CommandLineFault;
 use testkit_questions::AskFault;
 use tk_engine_execute::RunFault;
-use tk_plan_json_members::PlanFault;
+use tk_plan_json::PlanFault;
 use tk_plan_runs::ReportFault;
 use tk_query_conditions::CondFault;
 use tk_queue_replay::ReplayFault;
@@ -22,6 +22,10 @@ pub enum Fault {
     Ask(AskFault),
     /// A script was not replayed.
     Replay(ReplayFault),
+    /// Nothing of a record text was recovered, or what was recovered was not written.
+    Recover(ReadFault),
+    /// What stands before this fault of a record text was recovered and written.
+    Recovered(ReadFault),
     /// A plan's bytes were not read.
     Load(LoadFault),
     /// A plan was not run and reported.
@@ -42,8 +46,8 @@ impl From<CommandLineFault> for Fault {
 }
 
 impl Fault {
-    /// The exit status: 2 for bad words or bad input, 3 where a device, memory, a thread or a unit
-    /// failed.
+    /// The exit status: 1 where a part of the input was recovered, 2 for bad words or bad input, 3
+    /// where a device, memory, a thread or a unit failed.
     pub fn status(&self) -> u8
         ensures { result ≡ status_of self.now }
     {
@@ -52,6 +56,8 @@ impl Fault {
             Fault::CommandLine => 2,
             Fault::Ask(fault) => ask_status(fault),
             Fault::Replay(fault) => replay_status(fault),
+            Fault::Recover(fault) => recover_status(fault),
+            Fault::Recovered(_) => 1,
             Fault::Load(fault) => load_status(fault),
             Fault::Report(fault) => report_status(fault),
         }
@@ -81,6 +87,15 @@ fn replay_status(fault: &ReplayFault) -> u8
 {
     match fault {
         ReplayFault::Device | ReplayFault::Memory => 3,
+        _ => 2,
+    }
+}
+
+fn recover_status(fault: &ReadFault) -> u8
+    ensures { result ≡ status_of (Recover fault.now) }
+{
+    match fault {
+        ReadFault::Device | ReadFault::Memory => 3,
         _ => 2,
     }
 }

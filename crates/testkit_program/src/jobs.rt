@@ -6,7 +6,7 @@ ghost use Rattle.tk_streams.specs.declared.transfers.LoadFault.{LoadFault};
 ghost use Rattle.tk_streams.specs.declared.transfers.TheConstants.{CHUNK};
 ghost use Rattle.testkit_program.specs.declared.faults.Fault.TheVariants.{Load, Report};
 ghost use Rattle.testkit_program.specs.Jobs.{IsBroken, IsDone, IsInWriting, IsNotPerformed, IsOfWords, IsPerformed, IsRefused, devices, transfer};
-ghost use Rattle.testkit_program.specs.steps.{IsPlanOutcome, IsRunOutcome, output_text};
+ghost use Rattle.testkit_program.specs.steps.{HasOutput, IsPlanOutcome, IsRunOutcome, output_text};
 ghost use Rattle.tk_plan_runs.specs.Answers.{IsRunText};
 ghost use Rattle.testkit_program.specs.Statuses.{fault_of_line};
 ghost use Rattle.testkit_command_line.specs.declared.jobs.Job.TheVariants as jobs;
@@ -21,7 +21,7 @@ use testkit_questions::ask;
 use tk_engine_execute::Results;
 use tk_plan_runs::{PlanRun, ReportFault, run_plan, write_report, write_run_record};
 use tk_queue_replay::replay_text;
-use tk_record_text::MAX_TEXT;
+use tk_record_text::{MAX_TEXT, ReadFault, read_record_so_far, write_whole_record};
 use tk_streams::{LoadFault, Source, Target, load};
 
 // Writes the report or the record of a run.
@@ -35,10 +35,11 @@ fn write_results<T: Target>(
         (T.contents target.old) (T.contents target.new) result }
     ensures unwritten { IsErrOf result ReportFault.Memory → target.new ≡ target.old }
     ensures device { IsErrOf result ReportFault.Device → T.broken target.new ≡ true }
+    ensures has_output { HasOutput output results.now.recorded }
 {
     match output {
         RunOutput::Report => write_report(alloc, results, target),
-        RunOutput::Record => write_run_record(alloc, results, target),
+        RunOutput::Record => write_run_record(results, target),
     }
 }
 
@@ -56,6 +57,7 @@ fn write_run<T: Target>(
     ensures not_run { IfErr run (λ fault. result ≡ Err (Report fault)) }
     ensures run { IfOk run (λ run. IsRunOutcome (output_text output run.results.recorded)
         (T.contents target.old) (T.contents target.new) result) }
+    ensures has_output { IfOk run (λ run. HasOutput output run.results.recorded) }
     ensures unwritten { IfErr result (λ fault.
         IsInWriting fault ⊎ (target.new ≡ target.old)) }
     ensures device { IfOk run (λ _.
@@ -125,8 +127,44 @@ fn do_run<R: Threads + Wait + Sync, S: Source, T: Target>(
     run_loaded(rt, alloc, options, loaded, target)
 }
 
-/// Does a job: answers a question, replays the steps of a queue, or runs a plan with the job's
-/// number of workers and writes the run's report or its record.
+/// Writes the record of what stands before the first fault of a record text, as a text of version 3.
+///
+/// # Errors
+/// `Recovered` with that fault, where there is one; `Recover` where nothing was recovered, or where
+/// the target is broken.
+fn do_recover<S: Source, T: Target>(
+    alloc: Global,
+    source: &mut S,
+    target: &mut T,
+) -> Result<bool, Fault>
+    ensures done { IfOk result (IsDone jobs.Recover
+        (transfer (S.remaining source.old) (T.contents target.old) (T.contents target.new))) }
+    ensures refused { IfErr result (IsRefused jobs.Recover
+        (transfer (S.remaining source.old) (T.contents target.old) (T.contents target.new))) }
+    ensures unread { IfErr result (λ fault. IsOfWords fault → source.new ≡ source.old) }
+    ensures unwritten { IfErr result (λ fault.
+        IsInWriting fault ⊎ (target.new ≡ target.old)) }
+    ensures device { IfErr result (IsBroken (devices (S.broken source.new) (T.broken target.new))
+        (transfer (S.remaining source.old) (T.contents target.old) (T.contents target.new))) }
+    ensures stops { (fault : LoadFault) → result ≡ Err (Load fault)
+        → ConsumesUpTo (MAX_TEXT + CHUNK) (S.remaining source.old) (S.remaining source.new) }
+{
+    let (record, fault) = match read_record_so_far(alloc, source) {
+        Ok(read) => read,
+        Err(fault) => return Err(Fault::Recover(fault)),
+    };
+    if let Err(_) = write_whole_record(&record, target) {
+        return Err(Fault::Recover(ReadFault::Device));
+    }
+    match fault {
+        None => Ok(true),
+        Some(fault) => Err(Fault::Recovered(fault)),
+    }
+}
+
+/// Does a job: answers a question, replays the steps of a queue, recovers what stands before the
+/// first fault of a record, or runs a plan with the job's number of workers and writes the run's
+/// report or its record.
 ///
 /// The answer is `false` where a match says no or an expectation fails, and else `true`. The record
 /// of a plan's run isn't freed, since a program ends after its job.
@@ -162,6 +200,7 @@ pub fn do_job<R: Threads + Wait + Sync, S: Source, T: Target>(
             Ok(()) => Ok(true),
             Err(fault) => Err(Fault::Replay(fault)),
         },
+        Job::Recover => do_recover(alloc, source, target),
         Job::Run(options) => do_run(rt, alloc, options, source, target),
     }
 }

@@ -26,6 +26,7 @@ settled_read : (f : ReadFault) → IsSettled (Refused (faults.Read f)) → recor
 settled_read read.NoHeader s = tt
 settled_read (read.BadLine n) s = tt
 settled_read (read.Append n f) s = tt
+settled_read (read.CutOff n) s = tt
 settled_read read.TooLarge s = tt
 settled_read read.Device s = absurd s
 settled_read read.Memory s = absurd s

@@ -1,7 +1,5 @@
 -- Conditions that say the same have the same explanations.
-use Rattle.std.proofs.Common.{◌≡◌, ℕ, ◌+◌, ◌++◌, ◌∷◌, [], Bool, ◌&&◌, cond, List, map, take, Option, Some, None, refl, sym, ap, ap₂, subst, ◌∙◌}
-use Rattle.std.specs.Prelude.{count_by}
-use Rattle.std.proofs.lemmas.List.Sums.{sum_by_from}
+use Rattle.std.proofs.Common.{◌≡◌, ℕ, ◌+◌, ◌++◌, ◌∷◌, [], Bool, cond, List, map, take, Option, Some, None, refl, sym, ap, ap₂, subst, ◌∙◌}
 use Rattle.std.specs.List.{slice_get}
 use Rattle.tk_events.specs.declared.events.Entry.{Entry}
 use Rattle.tk_record.specs.Recorded.{Recorded}
@@ -10,9 +8,7 @@ use Rattle.tk_query_conditions.specs.declared.conditions.Condition.{Condition}
 use Rattle.tk_query_conditions.specs.Cond.{Cond}
 use Rattle.tk_query_conditions.specs.CondOf.{cond_of}
 use Rattle.tk_query.specs.Asked.{fits}
-use Rattle.tk_query.specs.Executions.{has_started}
 use Rattle.tk_query.specs.InOrder.{HasNoFit, IsNextFit}
-use Rattle.tk_query.specs.declared.execution.Execution.{Execution}
 use Rattle.tk_query.specs.declared.answers.Exclusive.TheVariants as exclusive
 use Rattle.tk_query.specs.declared.answers.Exact.{Exact}
 use Rattle.tk_query.specs.declared.answers.Exact.TheVariants as exact
@@ -21,7 +17,7 @@ use Rattle.tk_query.specs.declared.answers.InOrder.TheVariants as in_order
 use Rattle.tk_query_nearest.specs.Nearness.{IsNearest}
 use Rattle.tk_explanations.specs.MatchRows.{condition_row, found_rows, lacking_row, lacks, near_rows}
 use Rattle.tk_explanations.specs.Matches.{AreFirstFits, ExplainsExactly, ExplainsInOrder, ExplainsLoosely, IsLastFit, after, early_rows, exact_rows, last_of, unlike_rows}
-use Rattle.tk_explanations.specs.Collisions.{ExplainsExclusive, held_rows, holder_rows, is_held, names_some, collision_rows, writers_among, writers_said}
+use Rattle.tk_explanations.specs.Collisions.{ExplainsExclusive, holder_rows, names_some, writers_among, writers_said}
 use Rattle.testkit_questions.proofs.UniqueReading.{AreAlike}
 use Rattle.testkit_questions.proofs.UniqueReply.{as_many, exact_too, exclusive_too, in_order_too, like_at, loose_too, least_too, prefix, same_fits, same_holds}
 use Rattle.tk_record_text.proofs.AnswerIsUnique.{cons_same}
@@ -158,27 +154,6 @@ in_turn_too asked cs ds y t like (rows, (in_order.No k, is, told, below, h, rows
 
 -- ---- writers and readers
 
-held_same :
-    (asked : Selected) (c d : Condition) → cond_of c ≡ cond_of d → (xs : List Execution) →
-    count_by (is_held asked c) xs ≡ count_by (is_held asked d) xs
-held_same asked c d e [] = refl
-held_same asked c d e (x ∷ xs) =
-    let at : Condition → Execution → ℕ = λ f y. cond (is_held asked f y) 1 0 in
-    let here : at c x ≡ at d x =
-    ap (λ (b : Bool). cond b 1 0)
-    (ap (λ b. has_started x && b) (same_fits asked c d x.first e)) in
-    sum_by_from (at c) (0 + at c x) xs
-    ∙ ap₂ (λ (m n : ℕ). (0 + m) + n) here (held_same asked c d e xs)
-    ∙ sym (sum_by_from (at d) (0 + at d x) xs)
-
-held_rows_same :
-    (asked : Selected) (xs : List Execution) (k : ℕ) (c d : Condition) → cond_of c ≡ cond_of d →
-    held_rows asked xs k c ≡ held_rows asked xs k d
-held_rows_same asked xs k c d e =
-    let row = condition_same k c d e in
-    let number = held_same asked c d e xs in
-    cc
-
 module _ (asked : Selected) (w v r s : Condition) (writers : cond_of w ≡ cond_of v) (readers : cond_of r ≡ cond_of s) where
   said_same : (p q : ℕ) → writers_said asked w r p q ≡ writers_said asked v s p q
   said_same p q =
@@ -186,12 +161,8 @@ module _ (asked : Selected) (w v r s : Condition) (writers : cond_of w ≡ cond_
       (ap names_some readers)
       (ap₂ writers_among (same_fits asked w v p writers) (same_fits asked w v q writers)) refl
 
-  holder_rows_same :
-      (xs : List Execution) → holder_rows asked xs w r ≡ holder_rows asked xs v s
-  holder_rows_same xs =
-      append_same _ _ _ _ (held_rows_same asked xs 0 w v writers)
-      (cond_same (names_some (cond_of r)) (names_some (cond_of s)) _ _ _ _
-      (ap names_some readers) (held_rows_same asked xs 1 r s readers) refl)
+  holder_rows_same : holder_rows asked w r ≡ holder_rows asked v s
+  holder_rows_same = rw (writers, readers) refl
 
 pub holders_too :
     (asked : Selected) (w v r s : Condition) (y : Bool) (t : List ℕ) →
@@ -203,9 +174,7 @@ holders_too asked w v r s y t writers readers (rows, (exclusive.Yes, is, told, b
 holders_too asked w v r s y t writers readers (rows, (exclusive.No p q, is, told, below, are, rows_are), text) =
     let too = exclusive_too asked w v r s writers readers (exclusive.No p q) is in
     let said = said_same asked w v r s writers readers p q in
-    let rows_too = are.4 ∙ ap (collision_rows are.0 are.1) said in
-    (rows, (exclusive.No p q, too, told, below, (are.0, are.1, are.2, are.3, rows_too), rows_are), text)
+    (rows, (exclusive.No p q, too, told, below, (are.0, are.1, are.2, are.3, rw (sym said) are.4), rows_are), text)
 holders_too asked w v r s y t writers readers (rows, (exclusive.NoPair, is, told, below, are, rows_are), text) =
     let too = exclusive_too asked w v r s writers readers exclusive.NoPair is in
-    let rows_too = are.2 ∙ holder_rows_same asked w v r s writers readers are.0 in
-    (rows, (exclusive.NoPair, too, told, below, (are.0, are.1, rows_too), rows_are), text)
+    (rows, (exclusive.NoPair, too, told, below, are ∙ holder_rows_same asked w v r s writers readers, rows_are), text)

@@ -23,7 +23,7 @@ use Rattle.tk_query.specs.declared.answers.InOrder.{InOrder}
 use Rattle.tk_query.specs.declared.answers.InOrder.TheVariants as in_order
 use Rattle.tk_query.specs.declared.execution.Execution.{Execution}
 use Rattle.tk_query.specs.Asked.{event_at, is_there, fits}
-use Rattle.tk_query.specs.Exclusive.{ArePair, Collide, CollideAt, IsExclusive, SomePair, conflict}
+use Rattle.tk_query.specs.Exclusive.{ArePair, Collide, IsExclusive, SomePair, conflict}
 use Rattle.tk_query.specs.Holds.{cond_holds, holds}
 use Rattle.tk_query.specs.InOrder.{HoldInTurn, IsLeastInTurn}
 use Rattle.tk_query.specs.Laws as laws
@@ -163,35 +163,32 @@ module _ (asked : Selected) (w v r s : Condition) (writers : cond_of w ≡ cond_
   conflict_same : (p q : ℕ) → conflict asked w r p q ≡ conflict asked v s p q
   conflict_same p q = rw (same_fits asked w v p writers, same_fits asked w v q writers, same_fits asked r s p readers, same_fits asked r s q readers) refl
 
-  pair_too : (x y : Execution) → ArePair asked w r x y → ArePair asked v s x y
-  pair_too x y c = record {
+  pair_too : (p q : ℕ) → ArePair asked w r p q → ArePair asked v s p q
+  pair_too p q c = record {
     first = c.first;
     second = c.second;
     different = c.different;
-    conflicts = sym (conflict_same x.first y.first) ∙ c.conflicts;
+    conflicts = sym (conflict_same p q) ∙ c.conflicts;
   }
 
   some_too : SomePair asked w r → SomePair asked v s
-  some_too p = record { x = p.x; y = p.y; pair = pair_too p.x p.y p.pair }
+  some_too some = record { p = some.p; q = some.q; pair = pair_too some.p some.q some.pair }
 
-  collide_too : (x y : Execution) → Collide asked w r x y → Collide asked v s x y
-  collide_too x y c = record { pair = pair_too x y c.pair; overlap = c.overlap }
-
-  collide_at_too : (p q : ℕ) → CollideAt asked w r p q → CollideAt asked v s p q
-  collide_at_too p q c = record { x = c.x; y = c.y; first = c.first; second = c.second; collide = collide_too c.x c.y c.collide }
+  collide_too : (p q : ℕ) → Collide asked w r p q → Collide asked v s p q
+  collide_too p q c = record { pair = pair_too p q c.pair; overlap = c.overlap }
 
 pub exclusive_too : (asked : Selected) (w v r s : Condition) → cond_of w ≡ cond_of v → cond_of r ≡ cond_of s → (a : Exclusive) → IsExclusive asked w r a → IsExclusive asked v s a
 exclusive_too asked w v r s writers readers exclusives.Yes h = (
   some_too asked w v r s writers readers h.0,
-  λ x y c. h.1 x y (collide_too asked v w s r (sym writers) (sym readers) x y c),
+  λ p q c. h.1 p q (collide_too asked v w s r (sym writers) (sym readers) p q c),
 )
 exclusive_too asked w v r s writers readers exclusives.NoPair h =
-    λ x y c. h x y (pair_too asked v w s r (sym writers) (sym readers) x y c)
+    λ p q c. h p q (pair_too asked v w s r (sym writers) (sym readers) p q c)
 exclusive_too asked w v r s writers readers (exclusives.No p q) h = record {
   order = h.order;
-  collide = collide_at_too asked w v r s writers readers p q h.collide;
-  least_second = λ i j order c. h.least_second i j order (collide_at_too asked v w s r (sym writers) (sym readers) i j c);
-  least_first = λ i order c. h.least_first i order (collide_at_too asked v w s r (sym writers) (sym readers) i q c);
+  collide = collide_too asked w v r s writers readers p q h.collide;
+  least_second = λ i j order c. h.least_second i j order (collide_too asked v w s r (sym writers) (sym readers) i j c);
+  least_first = λ i order c. h.least_first i order (collide_too asked v w s r (sym writers) (sym readers) i q c);
 }
 
 -- ---- answers

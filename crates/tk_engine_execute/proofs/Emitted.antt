@@ -4,7 +4,7 @@ use Rattle.std.proofs.lemmas.List.Sums.{sum_by-append}
 use Rattle.std.specs.Prelude.{cond}
 use Rattle.tk_events.specs.declared.events.Event.{Event}
 use Rattle.tk_queue_session.specs.Emission.{is_dynamic, registrations}
-use Rattle.tk_engine_runs.specs.Run.{Emits}
+use Rattle.tk_claims.specs.Run.{Emits}
 
 pub registrations-append : (xs ys : List Event) → registrations (xs ++ ys) ≡ registrations xs + registrations ys
 registrations-append xs ys = sum_by-append (λ (e : Event). cond {A = ℕ} (is_dynamic e) 1 0) xs ys

@@ -8,3 +8,4 @@ pub mod Tokens
 pub mod SinkGrowth
 pub mod Faults
 pub mod FailedRuns
+pub mod WitnessValues

@@ -7,8 +7,8 @@ use Rattle.tk_base.proofs.Lists.{nil_from_length}
 use Rattle.atomic_table.specs.Seated.{TableId}
 use Rattle.tk_record.specs.Mixing.{IsWorkerOf}
 use Rattle.tk_queue_session.specs.Receivers.{ReceiverView}
-use Rattle.tk_engine_execute.specs.declared.event_collectors.EventCollector.{EventCollector}
-use Rattle.tk_engine_execute.specs.declared.worker_threads.Collected.{Collected}
+use Rattle.tk_engine_execute.specs.declared.runs.collectors.EventCollector.{EventCollector}
+use Rattle.tk_engine_execute.specs.declared.workers.threads.Collected.{Collected}
 use Rattle.tk_engine_execute.specs.declared.workers.WorkerEnd.{WorkerEnd}
 use Rattle.tk_engine_execute.specs.steps.EventCollectors.{TookMore, CanCollect, NoneIsAwaited}
 use Rattle.tk_engine_execute.specs.steps.PreparedRuns.{RunRequest, IsFreshCollector}

@@ -2,36 +2,36 @@
 use Rattle.std.proofs.Common.{◌≡◌, ◌≢◌, ◌==◌, ℕ, zero, suc, ◌+◌, ◌-◌, ◌<◌, ◌≤◌, Bool, true, false, if◌then◌else◌, cond, List, [], ◌∷◌, ◌++◌, map, length, None, Some, slice_get, get_or, ap, sym, subst, ◌∙◌, refl, arith, ⊎_elim, eq-eqb, ne_eqb}
 use Rattle.std.specs.Prelude.{All, Option, IfSome, slice_index}
 use Rattle.std.proofs.lemmas.Option.{slice_get-get_or}
-use Rattle.std.proofs.lemmas.Bool.{cases_eq}
+use Rattle.std.proofs.lemmas.Bool.{cases_eq, cases_lt}
 use Rattle.std.proofs.lemmas.List.{length-map}
 use Rattle.std.proofs.lemmas.List.Sums.{sum_by-cons}
 use Rattle.tk_events.specs.declared.events.Event.{Event}
 use Rattle.tk_events.specs.declared.events.Entry.{Entry}
 use Rattle.tk_record.specs.Mixing.{IsWorkerOf, of_worker, Mix}
 use Rattle.tk_queue_core.specs.Core.{entries}
-use Rattle.tk_engine_runs.specs.Claims.{ClaimView, ClaimSeatView, Claims}
+use Rattle.tk_claims.specs.Claims.{ClaimView, ClaimSeatView, Claims}
 use Rattle.tk_queue_session.specs.declared.close_faults.CloseReason.{CloseReason}
 use Rattle.tk_queue_session.specs.declared.close_faults.CloseReason.TheVariants.{Missing, Twice, NotDrained}
 use Rattle.tk_queue_session.specs.Senders.{SenderView as Sent}
 use Rattle.tk_queue_session.specs.Receivers.{ReceiverView, is_marked}
 use Rattle.tk_queue_session.specs.Tokens.{tokens_of, sent_by}
 use Rattle.tk_queue_session.specs.Closing.{ClosedView, IsCloseFault, sent_in}
-use Rattle.tk_engine_runs.specs.Run.{Emits}
+use Rattle.tk_claims.specs.Run.{Emits}
 use Rattle.tk_engine_execute.specs.declared.workers.WorkerEnd.{WorkerEnd}
-use Rattle.tk_engine_execute.specs.declared.workers.FailedUnit.{FailedUnit}
-use Rattle.tk_engine_execute.specs.declared.worker_parts.WorkerParts.{WorkerParts}
-use Rattle.tk_engine_execute.specs.declared.worker_threads.Collected.{Collected}
-use Rattle.tk_engine_execute.specs.declared.event_collectors.EventCollector.{EventCollector}
-use Rattle.tk_engine_execute.specs.Results.{IsTallied}
+use Rattle.tk_engine_execute.specs.declared.engines.UnitFault.{UnitFault}
+use Rattle.tk_engine_execute.specs.declared.workers.parts.WorkerParts.{WorkerParts}
+use Rattle.tk_engine_execute.specs.declared.workers.threads.Collected.{Collected}
+use Rattle.tk_engine_execute.specs.declared.runs.collectors.EventCollector.{EventCollector}
+use Rattle.tk_engine_execute.specs.Results.{IsTallied, TallyIsUnique}
 use Rattle.tk_engine_execute.specs.Work.{EngineView, StoppedAt, EmittedUntil, IsWork}
 use Rattle.tk_engine_execute.specs.steps.EventCollectors.{CanCollect, NoneIsAwaited}
-use Rattle.tk_engine_execute.specs.steps.Outcomes.{CanClose, failure_in, failures_by}
+use Rattle.tk_engine_execute.specs.steps.Outcomes.{CanClose, failures_by, ends_by}
 use Rattle.tk_engine_execute.specs.steps.WorkerParts.{HasRoomFor, tokens_in, seats_in}
 use Rattle.tk_engine_execute.specs.steps.WorkerThreads.{IsCollected}
 use Rattle.tk_engine_execute.specs.steps.Workers.{RunUnits, run_units, AllDone, IsStopped}
 use Rattle.tk_queue_session.specs.Emission.{entries_by}
 use Rattle.tk_base.proofs.Lists.{All_at}
-use Rattle.tk_engine_runs.proofs.Workers.{in_the_middle}
+use Rattle.tk_claims.proofs.Workers.{in_the_middle}
 use Rattle.tk_engine_execute.proofs.Positions.{map_at, all_from}
 
 -- ---- tokens that are numbered from k + 1 on
@@ -123,17 +123,17 @@ token_of (x ∷ os) zero o e = let same : x ≡ o = cc in ap (λ (y : WorkerEnd)
 token_of (x ∷ os) (suc i) o e = token_of os i o e
 
 -- the failure of the worker of an end
-failure_at : (k i : ℕ) (os : List WorkerEnd) (o : WorkerEnd) → Numbered k (tokens_in os) → slice_get os i ≡ Some o → failures_by os (k + i + 1) ≡ failure_in o.failure
+failure_at : (k i : ℕ) (os : List WorkerEnd) (o : WorkerEnd) → Numbered k (tokens_in os) → slice_get os i ≡ Some o → failures_by os (k + i + 1) ≡ o.failure
 failure_at k i [] o h e = cc
 failure_at k zero (x ∷ os) o h e =
     let own : x.ended.worker ≡ k + 0 + 1 = h 0 x.ended refl in
     let same : x ≡ o = cc in
-    ap (λ (b : Bool). if b then failure_in x.failure else failures_by os (k + 0 + 1)) (eq-eqb x.ended.worker (k + 0 + 1) own) ∙ ap (λ (y : WorkerEnd). failure_in y.failure) same
+    ap (λ (b : Bool). if b then x.failure else failures_by os (k + 0 + 1)) (eq-eqb x.ended.worker (k + 0 + 1) own) ∙ ap (λ (y : WorkerEnd). y.failure) same
 failure_at k (suc i) (x ∷ os) o h e =
     let own : x.ended.worker ≡ k + 0 + 1 = h 0 x.ended refl in
     let other : x.ended.worker ≢ k + suc i + 1 = λ same. absurd (omega (arith, own, same)) in
     let n : k + suc i + 1 ≡ suc k + i + 1 = omega arith in
-    ap (λ (b : Bool). if b then failure_in x.failure else failures_by os (k + suc i + 1)) (ne_eqb x.ended.worker (k + suc i + 1) other) ∙ ap (failures_by os) n
+    ap (λ (b : Bool). if b then x.failure else failures_by os (k + suc i + 1)) (ne_eqb x.ended.worker (k + suc i + 1) other) ∙ ap (failures_by os) n
     ∙ failure_at (suc k) i os o (tail k x.ended (tokens_in os) h) e
 
 -- ---- the end of a run
@@ -190,17 +190,16 @@ module _ (e : EngineView) (claim : ClaimView) (n : ℕ) (t : Collected) (c : IsC
 
   -- what the workers of a run did
   pub work : (many : ℕ) → Mix t.collector.receiver.workers (entries t.collector.receiver.taken) (sent_by (tokens_in os)) → Claims (map (λ (s : ClaimSeatView). s.numbers) (seats_in os)) many
-      → All (λ s. s.spent ≡ true → many ≡ e.units) (seats_in os) → IsWork e n (failures_by os) (entries t.collector.receiver.taken)
+      → All (λ s. s.spent ≡ true → many ≡ e.units) (seats_in os) → IsWork e n (ends_by os) (entries t.collector.receiver.taken)
   work many mix claims spent = record {
     drawn = map (λ (s : ClaimSeatView). s.numbers) (seats_in os);
     many = many;
-    lists = sent_by (tokens_in os);
     seats = length-map (seats_in os) (λ (s : ClaimSeatView). s.numbers) ∙ as_many_seats;
     claims = claims;
     all = λ w own none.
         let o = end_of w own in
-        let same : failures_by os w ≡ failure_in o.1.failure = ap (failures_by os) o.3 ∙ failure_at 0 o.0 os o.1 numbers o.2 in
-        let stated : o.1.claim_seat.spent ≡ true = (done o.0 o.1 o.2).all (no_failure o.1.failure (sym same ∙ none)) in
+        let same : failures_by os w ≡ o.1.failure = ap (failures_by os) o.3 ∙ failure_at 0 o.0 os o.1 numbers o.2 in
+        let stated : o.1.claim_seat.spent ≡ true = (done o.0 o.1 o.2).all (sym same ∙ none) in
         All_at (λ (s : ClaimSeatView). s.spent ≡ true → many ≡ e.units) (seats_in os) o.0 o.1.claim_seat spent (seat_of os o.0 o.1 o.2) stated;
     mix = rw c.workers at mix;
     emitted = λ i us at.
@@ -210,26 +209,42 @@ module _ (e : EngineView) (claim : ClaimView) (n : ℕ) (t : Collected) (c : IsC
         let us_is : us ≡ o.0.claim_seat.numbers = s.2 ∙ ap (λ (x : ClaimSeatView). x.numbers) o.2 in
         let k : 0 + i + 1 ≡ i + 1 = omega arith in
         let list_is : sent_by (tokens_in os) (i + 1) ≡ o.0.ended.sent = ap (sent_by (tokens_in os)) (sym k) ∙ list_at 0 i (tokens_in os) o.0.ended numbers (token_of os i o.0 o.1) in
-        let failure_is : failures_by os (i + 1) ≡ failure_in o.0.failure = ap (failures_by os) (sym k) ∙ failure_at 0 i os o.0 numbers o.1 in
+        let failure_is : failures_by os (i + 1) ≡ o.0.failure = ap (failures_by os) (sym k) ∙ failure_at 0 i os o.0 numbers o.1 in
         rw (us_is, list_is, failure_is) (emitted_until (i + 1) o.0 one.worker o.0.failure refl one.emits one.stopped);
   }
     where
-      no_failure : (f : Option FailedUnit) → failure_in f ≡ None → f ≡ None
-      no_failure None h = refl
-      no_failure (Some f) h = cc
-
       seat_of : (os : List WorkerEnd) (i : ℕ) (o : WorkerEnd) → slice_get os i ≡ Some o → slice_get (seats_in os) i ≡ Some o.claim_seat
       seat_of [] i o at = cc
       seat_of (x ∷ os) zero o at = let same : x ≡ o = cc in ap (λ (y : WorkerEnd). Some y.claim_seat) same
       seat_of (x ∷ os) (suc i) o at = seat_of os i o at
 
-      emitted_until : (w : ℕ) (o : WorkerEnd) → o.ended.worker ≡ w → (f : Option FailedUnit) → o.failure ≡ f
-          → (o.failure ≡ None → Emits e.may w 0 o.claim_seat.numbers o.ended.sent) → IfSome o.failure (λ f. IsStopped e.may o.ended o.claim_seat f.unit)
-          → EmittedUntil e.may w o.claim_seat.numbers o.ended.sent (failure_in f)
+      emitted_until : (w : ℕ) (o : WorkerEnd) → o.ended.worker ≡ w → (f : Option (ℕ × UnitFault)) → o.failure ≡ f
+          → (o.failure ≡ None → Emits e.may w 0 o.claim_seat.numbers o.ended.sent) → IfSome o.failure (λ f. IsStopped e.may o.ended o.claim_seat f.0)
+          → EmittedUntil e.may w o.claim_seat.numbers o.ended.sent f
       emitted_until w o worker None is emits stopped = emits is
       emitted_until w o worker (Some f) is emits stopped =
-          let here : IsStopped e.may o.ended o.claim_seat f.unit = subst (λ (x : Option FailedUnit). IfSome x (λ g. IsStopped e.may o.ended o.claim_seat g.unit)) is stopped in
-          subst (λ v. StoppedAt e.may v o.claim_seat.numbers o.ended.sent f.unit) worker here.stopped
+          let here : IsStopped e.may o.ended o.claim_seat f.0 = subst (λ (x : Option (ℕ × UnitFault)). IfSome x (λ g. IsStopped e.may o.ended o.claim_seat g.0)) is stopped in
+          subst (λ v. StoppedAt e.may v o.claim_seat.numbers o.ended.sent f.0) worker here.stopped
+
+  -- what the workers of a closed session did
+  pub closed_work :
+      (closed : ClosedView) (tokens : List Sent) (seats : List ClaimSeatView) (many : ℕ)
+      → tokens ≡ tokens_in os → seats ≡ seats_in os → claim.limit ≡ e.units
+      → Mix t.collector.receiver.workers (entries t.collector.receiver.taken) (sent_by tokens)
+      → ((w : ℕ) → sent_in closed w ≡ sent_by tokens w)
+      → Claims (map (λ (s : ClaimSeatView). s.numbers) seats) many
+      → All (λ s. s.spent ≡ true → many ≡ claim.limit) seats
+      → IsWork e n (record { sent = sent_in closed; failures = failures_by os }) (entries t.collector.receiver.taken)
+  closed_work closed tokens seats many tokens_are seats_are limit mix same claims spent =
+      subst (λ (sent : ℕ → List Event). IsWork e n (record { sent = sent; failures = failures_by os }) (entries t.collector.receiver.taken))
+      (λ i w. sym (same w) i)
+      (subst (λ (ts : List Sent). IsWork e n (record { sent = sent_by ts; failures = failures_by os }) (entries t.collector.receiver.taken))
+      (sym tokens_are)
+      (work many
+      (subst (λ (ts : List Sent). Mix t.collector.receiver.workers (entries t.collector.receiver.taken) (sent_by ts)) tokens_are mix)
+      (subst (λ (ss : List ClaimSeatView). Claims (map (λ (s : ClaimSeatView). s.numbers) ss) many) seats_are claims)
+      (subst (λ (k : ℕ). All (λ (s : ClaimSeatView). s.spent ≡ true → many ≡ k) (seats_in os)) limit
+      (subst (λ (ss : List ClaimSeatView). All (λ (s : ClaimSeatView). s.spent ≡ true → many ≡ claim.limit) ss) seats_are spent))))
 
 -- what a closed session knows, as `close` gives it
 pub tallied :
@@ -255,6 +270,19 @@ tallied_whole n closed before after mid whole is tally =
       each = λ w own. tally.each w own ∙ ap (λ l. length l) (sym (same w own));
       others = tally.others;
     }
+
+-- a record and the numbers of its workers are of one list for each
+pub one_tally : TallyIsUnique
+one_tally n a b es first second = (
+  λ w own. sym (first.sent w own) ∙ second.sent w own,
+  λ w. ⊎_elim {C = slice_index a.emitted w ≡ slice_index b.emitted w}
+      (λ (low : w < 1). let none : ¬ IsWorkerOf n w = λ own. (let some = own.0 in absurd (omega (arith, low, some))) in first.others w none ∙ sym (second.others w none))
+      (λ (some : 1 ≤ w). ⊎_elim {C = slice_index a.emitted w ≡ slice_index b.emitted w}
+      (λ (above : n < w). let none : ¬ IsWorkerOf n w = λ own. (let few = own.1 in absurd (omega (arith, above, few))) in first.others w none ∙ sym (second.others w none))
+      (λ (few : w ≤ n). let own : IsWorkerOf n w = (omega (arith, some), few) in first.each w own ∙ sym (second.each w own))
+      (cases_lt n w))
+      (cases_lt w 1),
+)
 
 -- room for the parts of n workers is room for those of fewer
 pub room_for_fewer : (m n : ℕ) (p : WorkerParts) → m ≤ n → HasRoomFor n p → HasRoomFor m p

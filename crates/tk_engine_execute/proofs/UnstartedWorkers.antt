@@ -4,9 +4,9 @@ use Rattle.std.specs.Prelude.{vec_len}
 use Rattle.atomic_table.specs.Seated.{TableId}
 use Rattle.tk_ids.specs.declared.descriptors.Descriptor.{Descriptor}
 use Rattle.tk_locks.specs.Books.{BookSeatView, empty}
-use Rattle.tk_engine_runs.specs.Claims.{ClaimSeatView, fresh}
+use Rattle.tk_claims.specs.Claims.{ClaimSeatView, fresh}
 use Rattle.tk_queue_session.specs.Senders.{SenderView, fresh_senders}
-use Rattle.tk_engine_execute.specs.declared.unstarted_workers.UnstartedWorkers.{UnstartedWorkers}
+use Rattle.tk_engine_execute.specs.declared.workers.unstarted.UnstartedWorkers.{UnstartedWorkers}
 use Rattle.tk_engine_execute.specs.declared.workers.WorkerHandles.{WorkerHandles}
 use Rattle.tk_engine_execute.specs.steps.Workers.{SharedParts, IsReady, AreUnstarted, IsLastWorker}
 use Rattle.tk_engine_execute.proofs.Positions.{all_prefix, all_last, same_last}

@@ -10,6 +10,7 @@ use Rattle.tk_queue_session.specs.declared.sender_faults.RegisterFault.TheVarian
 use Rattle.tk_engine_execute.specs.declared.sinks.SinkFault.TheVariants as sinks
 use Rattle.tk_engine_execute.specs.declared.engines.UnitFault.{UnitFault}
 use Rattle.tk_engine_execute.specs.declared.engines.UnitFault.TheVariants as units
+use Rattle.tk_engine_execute.specs.Prefix.{IsPrefix}
 
 -- b is of the same session, table and worker as a
 pub record IsSameSender (a b : SenderView) : Type 0 where
@@ -19,7 +20,7 @@ pub record IsSameSender (a b : SenderView) : Type 0 where
 
 -- what b sent is what a sent, and a list after it
 abbrev pub Extends : SenderView → SenderView → Type 0
-Extends a b = (l : List Event) × (b.sent ≡ a.sent ++ l)
+Extends a b = IsPrefix a.sent b.sent
 
 -- What b sent is what a sent, and after it a list that a unit may emit for the worker. Which keys
 -- the list's registrations have depends on how many descriptors the worker had registered before.

@@ -1,5 +1,5 @@
 -- Which fault a run answers, by what failed at its workers.
-use Rattle.std.specs.Prelude.{◌≡◌, ℕ, ◌<◌, Option, None, Some, IfSome}
+use Rattle.std.specs.Prelude.{◌≡◌, ℕ, ◌<◌, Option, None, Some}
 use Rattle.tk_record.specs.Mixing.{IsWorkerOf}
 use Rattle.tk_engine_execute.specs.declared.engines.UnitFault.{UnitFault}
 use Rattle.tk_engine_execute.specs.declared.run_faults.RunFault.{RunFault}
@@ -26,10 +26,9 @@ abbrev pub IsFirstFault : ℕ → Failures → RunFault → Type 0
 IsFirstFault n failures (Engine unit why) = IsLowestFailure n failures unit why
 IsFirstFault n failures fault = NoWorkerFailed n failures
 
--- Why a run of n workers failed: there are failures of the workers, each of which a unit may have,
--- and of these the run answers the first.
-pub record IsFaultOfRun (n : ℕ) (may_fail : ℕ → UnitFault → Type 0) (fault : RunFault)
-    : Type 0 where
-  pub failures : Failures
-  pub each : (w : ℕ) → IfSome (failures w) (λ failed. may_fail failed.0 failed.1)
-  pub first : IsFirstFault n failures fault
+-- of failures one unit's comes first
+abbrev pub FirstFaultIsUnique : Type 0
+FirstFaultIsUnique =
+    (n : ℕ) (failures : Failures) (u v : ℕ) (why other : UnitFault)
+    → IsFirstFault n failures (Engine u why) → IsFirstFault n failures (Engine v other)
+    → (u ≡ v) × (why ≡ other)

@@ -1,5 +1,5 @@
-pub use Rattle.tk_engine_runs.specs.Claims
-pub use Rattle.tk_engine_runs.specs.Run
+pub use Rattle.tk_claims.specs.Claims
+pub use Rattle.tk_claims.specs.Run
 pub mod Engines
 pub mod FailedRuns
 pub mod Faults
@@ -8,5 +8,6 @@ pub mod Prefix
 pub mod Results
 pub mod Sinks
 pub mod FaultTexts
+pub mod Witnesses
 pub mod Work
 pub mod steps

@@ -1,7 +1,6 @@
--- Prefixes of entries.
+-- Prefixes of lists.
 use Rattle.std.specs.Prelude.{◌≡◌, List, ◌++◌}
-use Rattle.tk_events.specs.declared.events.Entry.{Entry}
 
 -- the second list begins with the first
-abbrev pub IsPrefix : List Entry → List Entry → Type 0
-IsPrefix xs ys = (rest : List Entry) × (ys ≡ xs ++ rest)
+abbrev pub IsPrefix : {X : Type 0} → List X → List X → Type 0
+IsPrefix {X = X} xs ys = (rest : List X) × (ys ≡ xs ++ rest)

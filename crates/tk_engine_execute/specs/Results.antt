@@ -17,3 +17,11 @@ pub record IsTallied (n : ℕ) (closed : ClosedView) (entries : List Entry) : Ty
   pub each : (w : ℕ) → IsWorkerOf n w
       → slice_index closed.emitted w ≡ length (of_worker w entries)
   pub others : (w : ℕ) → ¬ IsWorkerOf n w → slice_index closed.emitted w ≡ 0
+
+-- of two sessions of which the same is recorded each worker has one list and one number
+abbrev pub TallyIsUnique : Type 0
+TallyIsUnique =
+    (n : ℕ) (a b : ClosedView) (entries : List Entry)
+    → IsTallied n a entries → IsTallied n b entries
+    → ((w : ℕ) → IsWorkerOf n w → sent_in a w ≡ sent_in b w)
+    × ((w : ℕ) → slice_index a.emitted w ≡ slice_index b.emitted w)

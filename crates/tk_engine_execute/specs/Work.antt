@@ -5,8 +5,8 @@ use Rattle.tk_ids.specs.declared.descriptors.Descriptor.{Descriptor}
 use Rattle.tk_events.specs.declared.events.Event.{Event}
 use Rattle.tk_events.specs.declared.events.Entry.{Entry}
 use Rattle.tk_record.specs.Mixing.{IsWorkerOf, Mix}
-use Rattle.tk_engine_runs.specs.Claims.{Claims}
-use Rattle.tk_engine_runs.specs.Run.{Emits}
+use Rattle.tk_claims.specs.Claims.{Claims}
+use Rattle.tk_claims.specs.Run.{Emits}
 use Rattle.tk_engine_execute.specs.declared.engines.UnitFault.{UnitFault}
 use Rattle.tk_engine_execute.specs.Faults.{Failures}
 
@@ -52,16 +52,20 @@ abbrev pub EmittedUntil :
 EmittedUntil may w drawn emitted None = Emits may w 0 drawn emitted
 EmittedUntil may w drawn emitted (Some failed) = StoppedAt may w drawn emitted failed.0
 
--- The entries interleave what the workers 1 to n emitted. They drew units, each once, and all of
--- them unless each worker has a failure.
-pub record IsWork (e : EngineView) (n : ℕ) (failures : Failures) (mid : List Entry) : Type 0 where
+-- what the workers of a run left, by their numbers: the events that each sent, and its failure
+pub record Ends : Type 0 where
+  pub sent : ℕ → List Event
+  pub failures : Failures
+
+-- The entries interleave what the workers 1 to n sent. They drew units, each once, and all of them
+-- unless each worker has a failure.
+pub record IsWork (e : EngineView) (n : ℕ) (ends : Ends) (mid : List Entry) : Type 0 where
   pub drawn : List (List ℕ)
   pub many : ℕ
-  pub lists : ℕ → List Event
   pub seats : length drawn ≡ n
   pub claims : Claims drawn many
-  pub all : (w : ℕ) → IsWorkerOf n w → failures w ≡ None → many ≡ e.units
-  pub mix : Mix n mid lists
+  pub all : (w : ℕ) → IsWorkerOf n w → ends.failures w ≡ None → many ≡ e.units
+  pub mix : Mix n mid ends.sent
   pub emitted :
       (i : ℕ) (us : List ℕ) → slice_get drawn i ≡ Some us
-      → EmittedUntil e.may (i + 1) us (lists (i + 1)) (failures (i + 1))
+      → EmittedUntil e.may (i + 1) us (ends.sent (i + 1)) (ends.failures (i + 1))

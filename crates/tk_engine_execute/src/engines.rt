@@ -5,17 +5,13 @@ ghost use Rattle.tk_ids.specs.declared.descriptors.Descriptor.{Descriptor};
 ghost use Rattle.tk_events.specs.declared.events.Event.{Event};
 ghost use Rattle.tk_locks.specs.NeedView.{NeedView};
 ghost use Rattle.tk_engine_execute.specs.Engines.{IsSameSender, Extends, ExtendsAs, AreOfWorkerZero};
-ghost use Rattle.tk_engine_execute.specs.FaultTexts.{unit_fault_text};
 
 use crate::sinks::{Sink, SinkFault};
 use std::alloc::{AllocError, Global};
-use std::error::Error;
-use std::fmt;
 use std::sync::{Arc, Wait};
 use tk_events::Event;
-use tk_ids::{IdFault, Table};
+use tk_ids::Table;
 use tk_locks::{BookSeat, Need};
-use tk_queue_session::RegisterFault;
 
 /// The most units that an engine may have.
 pub const MAX_UNITS: u32 = 65_536;
@@ -44,57 +40,6 @@ pub enum UnitFault {
     ///
     /// `Display` writes the text as it is, here `unit 3 failed: the tape is missing` of a run.
     Text(&'static str),
-}
-
-impl fmt::Display for UnitFault {
-    ghost output = { λ fault. Some (unit_fault_text fault) };
-
-    fn fmt<W: fmt::Write>(&self, f: &mut fmt::Formatter<W>) -> fmt::Result {
-        match self {
-            UnitFault::Sink(fault) => write!(f, "{fault}"),
-            UnitFault::Memory => f.write_str("out of memory"),
-            UnitFault::Own(OUT_OF_ORDER) => f.write_str("it breaks the order of its tests"),
-            UnitFault::Own(TWICE) => f.write_str("it registers a dynamic id twice"),
-            UnitFault::Own(number) => write!(f, "engine fault {number}"),
-            UnitFault::Text(text) => f.write_str(text),
-        }
-    }
-}
-
-impl Error for UnitFault {}
-
-impl From<SinkFault> for UnitFault {
-    ghost use Rattle.tk_engine_execute.specs.declared.engines.UnitFault.TheVariants.{Sink as Sunk};
-
-    ghost from_gives = { λ fault e. e ≡ Sunk fault };
-
-    fn from(fault: SinkFault) -> UnitFault {
-        UnitFault::Sink(fault)
-    }
-}
-
-impl From<AllocError> for UnitFault {
-    ghost use Rattle.tk_engine_execute.specs.declared.engines.UnitFault.TheVariants.{Memory};
-
-    ghost from_gives = { λ _ e. e ≡ Memory };
-
-    fn from(_: AllocError) -> UnitFault {
-        UnitFault::Memory
-    }
-}
-
-/// A segment of a dynamic descriptor that can't be made, as where its value is empty.
-impl From<IdFault> for UnitFault {
-    ghost use Rattle.tk_engine_execute.specs.Engines.{fault_of_id};
-
-    ghost from_gives = { λ fault e. e ≡ fault_of_id fault };
-
-    fn from(fault: IdFault) -> UnitFault {
-        match fault {
-            IdFault::Memory => UnitFault::Memory,
-            fault => UnitFault::Sink(SinkFault::Register(RegisterFault::Id(fault))),
-        }
-    }
 }
 
 /// A test engine, whose units of work [`execute`](crate::execute) runs in parallel.

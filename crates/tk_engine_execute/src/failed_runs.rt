@@ -2,6 +2,7 @@
 ghost use Rattle.std.specs.Prelude.{◌≡◌, None};
 
 use crate::run_faults::RunFault;
+use tk_queue_session::Closed;
 use tk_record::Record;
 
 /// A run that failed: why, and what was recorded until then.
@@ -15,6 +16,8 @@ pub struct FailedRun {
     pub fault: RunFault,
     /// The record so far.
     pub recorded: Option<Record>,
+    /// How many events each worker emitted, where there is a record.
+    pub closed: Option<Closed>,
     /// Whether the record has all that the workers emitted. Where memory was refused for an entry,
     /// it has nothing from this entry on.
     pub is_complete: bool,
@@ -25,10 +28,12 @@ impl FailedRun {
     pub(crate) fn without_record(fault: RunFault) -> FailedRun
         ensures fault { result.fault ≡ fault }
         ensures recorded { result.recorded ≡ None }
+        ensures closed { result.closed ≡ None }
     {
         FailedRun {
             fault,
             recorded: None,
+            closed: None,
             is_complete: false,
         }
     }
@@ -40,6 +45,7 @@ impl FailedRun {
         let FailedRun {
             fault,
             recorded: _,
+            closed: _,
             is_complete: _,
         } = self;
         fault

@@ -1,8 +1,12 @@
-//! The limit of an engine, and the numbers of faults that have a meaning.
+//! The limit of an engine, the numbers of faults that have a meaning, and what runs can't differ in.
 ghost use Rattle.std.specs.Prelude.{◌≡◌, ◌-◌, ◌^◌};
+ghost use Rattle.tk_engine_execute.specs.Faults.{FirstFaultIsUnique};
+ghost use Rattle.tk_engine_execute.specs.Results.{TallyIsUnique};
+ghost use Rattle.tk_engine_execute.specs.Witnesses.{KeptWitnesses};
+ghost use Rattle.atomic_table.specs.Seated.{TableId};
 
 use crate::engines::{MAX_UNITS, OUT_OF_ORDER, TWICE};
-pub use tk_engine_runs::laws::each_worker_has_its_list;
+pub use tk_claims::laws::each_worker_has_its_list;
 
 /// An engine has at most 65,536 units.
 pub fn limits()
@@ -13,4 +17,19 @@ pub fn limits()
 pub fn fault_numbers()
     ensures out_of_order { OUT_OF_ORDER ≡ 2 ^ 32 - 1 }
     ensures twice { TWICE ≡ 2 ^ 32 - 2 }
+{}
+
+/// Of the failures that workers had, one is the first.
+pub fn first_fault_is_unique()
+    ensures { FirstFaultIsUnique }
+{}
+
+/// A record leaves no choice of what the workers sent, nor of how many events that were.
+pub fn tally_is_unique()
+    ensures { TallyIsUnique }
+{}
+
+/// Shows with numbers that the record of a failed run keeps what was sent, and refuses other records.
+pub fn kept_witnesses()
+    ensures { (session : TableId) → KeptWitnesses session }
 {}

@@ -2,26 +2,19 @@
 //! several.
 #![tactic(auto)]
 
-mod closing;
 mod engines;
-mod event_collectors;
 mod failed_runs;
 pub mod laws;
-mod many_runs;
-mod prepared_runs;
 mod results;
 mod run_faults;
 mod runs;
 mod sinks;
-mod unstarted_workers;
-mod worker_parts;
-mod worker_threads;
+mod traits;
 mod workers;
 
 pub use engines::{Engine, MAX_UNITS, OUT_OF_ORDER, TWICE, UnitFault};
 pub use failed_runs::FailedRun;
-pub use many_runs::execute_many;
 pub use results::Results;
 pub use run_faults::RunFault;
-pub use runs::{execute, execute_with_record};
+pub use runs::{execute, execute_many, execute_with_record};
 pub use sinks::{Sink, SinkFault};

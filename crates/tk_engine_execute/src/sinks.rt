@@ -1,12 +1,9 @@
 //! Where a unit's events go.
 ghost use Rattle.std.specs.Prelude.{◌≡◌, None, Some, Ok, IfOk, IfErr, OnOk, OnErr};
-ghost use Rattle.tk_engine_execute.specs.FaultTexts.{sink_fault_text};
 ghost use Rattle.tk_engine_execute.specs.Sinks.{IsSendCause, IsRegisterCause};
 ghost use Rattle.tk_queue_session.specs.Senders.{SenderView, sends, refusal_of};
 ghost use Rattle.tk_queue_session.specs.Registering.{IsRegisteredAs};
 
-use std::error::Error;
-use std::fmt;
 use std::sync::Wait;
 use tk_events::Event;
 use tk_ids::{DType, Segment};
@@ -20,19 +17,6 @@ pub enum SinkFault {
     /// The sink refused a registration.
     Register(RegisterFault),
 }
-
-impl fmt::Display for SinkFault {
-    ghost output = { λ fault. Some (sink_fault_text fault) };
-
-    fn fmt<W: fmt::Write>(&self, f: &mut fmt::Formatter<W>) -> fmt::Result {
-        match self {
-            SinkFault::Send(fault) => write!(f, "{fault}"),
-            SinkFault::Register(fault) => write!(f, "{fault}"),
-        }
-    }
-}
-
-impl Error for SinkFault {}
 
 /// Takes the events of a unit, for one worker of a session. JUnit: an `EngineExecutionListener`.
 ///

@@ -1,13 +1,17 @@
 //! A worker: it draws units and runs them until none is left, or one fails.
 ghost use Rattle.std.specs.Prelude.{◌≡◌, ◌<◌, None, Some, true, IfNone, IfSome, IfOk, IfErr, OnOk, OnErr};
-ghost use Rattle.tk_engine_runs.specs.Run.{Emits};
+ghost use Rattle.tk_claims.specs.Run.{Emits};
 ghost use Rattle.tk_engine_execute.specs.Engines.{IsSameSender, Extends, ExtendsAs, MayFail};
 ghost use Rattle.tk_engine_execute.specs.steps.Workers.{shared_parts, run_units, IsReady, IsDone, IsStopped};
+
+pub(crate) mod parts;
+pub(crate) mod threads;
+pub(crate) mod unstarted;
 
 use crate::engines::{Engine, UnitFault};
 use std::alloc::Global;
 use std::sync::Wait;
-use tk_engine_runs::{Claim, ClaimSeat};
+use tk_claims::{Claim, ClaimSeat};
 use tk_locks::{Book, BookSeat};
 use tk_queue_session::{Ended, Sender};
 
@@ -19,19 +23,13 @@ pub(crate) struct WorkerHandles {
     pub book_seat: BookSeat,
 }
 
-/// The unit that failed, and why.
-#[derive(Drop)]
-pub(crate) struct FailedUnit {
-    pub unit: u32,
-    pub why: UnitFault,
-}
-
-/// What a worker's thread returns: its token, its seat of the claim, and its first failure.
+/// What a worker's thread returns: its token, its seat of the claim, and the unit that failed, with
+/// its fault.
 #[derive(Drop)]
 pub(crate) struct WorkerEnd {
     pub ended: Ended,
     pub claim_seat: ClaimSeat,
-    pub failure: Option<FailedUnit>,
+    pub failure: Option<(u32, UnitFault)>,
 }
 
 // Runs a unit while the worker's seat of the book holds its need.
@@ -70,7 +68,7 @@ fn run_units<R: Wait, E: Engine>(
     claim: &Claim,
     book: &Book,
     handles: &mut WorkerHandles,
-) -> Option<FailedUnit>
+) -> Option<(u32, UnitFault)>
     requires limit { claim.now.limit ≡ E.units engine.now }
     requires ready { IsReady (shared_parts claim.now book.now (E.table engine.now)) handles.old }
     ensures same { IsSameSender handles.old.sender handles.new.sender }
@@ -80,16 +78,16 @@ fn run_units<R: Wait, E: Engine>(
         (Emits (E.may engine.now) handles.old.sender.worker 0
         handles.new.claim_seat.numbers handles.new.sender.sent) }
     ensures failed { IfSome result (λ failure.
-        MayFail (E.units engine.now) (E.fails engine.now) failure.unit failure.why) }
+        MayFail (E.units engine.now) (E.fails engine.now) failure.0 failure.1) }
     ensures stopped { IfSome result (λ failure.
-        IsStopped (E.may engine.now) handles.new.sender handles.new.claim_seat failure.unit) }
+        IsStopped (E.may engine.now) handles.new.sender handles.new.claim_seat failure.0) }
 {
     for _ in rt.forever() {
         let Some(unit) = claim.draw(&mut handles.claim_seat) else {
             return None;
         };
         if let Err(why) = run_unit(rt, alloc, engine, book, unit, handles) {
-            return Some(FailedUnit { unit, why });
+            return Some((unit, why));
         }
     }
     unreachable!()

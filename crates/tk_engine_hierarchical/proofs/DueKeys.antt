@@ -8,7 +8,7 @@ use Rattle.tk_record.specs.Record.{IsRecord}
 use Rattle.tk_record.specs.Recorded.{Recorded}
 use Rattle.tk_query_lifecycle.specs.KeepsLifecycle.{KeepsLifecycle}
 use Rattle.tk_query_lifecycle.specs.NeverRan.{EachDueKeyRuns}
-use Rattle.tk_plan_laws.proofs.Turns.{IsTurned, ran_by_steps, turned_keys_run}
+use Rattle.tk_run_laws.proofs.Turns.{IsTurned, ran_by_steps, turned_keys_run}
 use Rattle.tk_engine_hierarchical.specs.Laws.{HasTurn, HaveTurns}
 
 turned : (r : Recorded) (key : ℕ) → HasTurn r key → IsTurned r key

@@ -11,7 +11,7 @@ use Rattle.tk_record.specs.Record.{IsRecord}
 use Rattle.tk_record.specs.Recorded.{Recorded}
 use Rattle.tk_queue_session.specs.Emission.{entries_by, entry_by}
 use Rattle.tk_query_lifecycle.specs.Lifecycle.{HasId}
-use Rattle.tk_engine_runs.specs.Run.{IsRun}
+use Rattle.tk_claims.specs.Run.{IsRun}
 use Rattle.tk_engine_lifecycle.specs.Units.{Frame, UnitsKeepLifecycle, run_alone}
 use Rattle.tk_engine_lifecycle.proofs.SeparateTurns.{Hit, KeptRun, other_first}
 use Rattle.tk_engine_lifecycle.proofs.ByKey.{same_id}

@@ -25,9 +25,9 @@ use Rattle.tk_record.specs.Mixing.{IsWorkerOf, of_worker}
 use Rattle.tk_queue_session.specs.Emission.{entries_by, entry_by, registrations}
 use Rattle.tk_query_lifecycle.specs.Lifecycle.{has_event, is_event}
 use Rattle.tk_query_lifecycle.specs.KeepsLifecycle.{IsWhole, KeepsLifecycle, is_step, steps_of}
-use Rattle.tk_engine_runs.specs.Claims.{once_below, times}
+use Rattle.tk_claims.specs.Claims.{once_below, times}
 use Rattle.tk_engine_execute.proofs.Emitted.{registrations-append}
-use Rattle.tk_engine_runs.specs.Run.{Emits, IsRun, IsShared}
+use Rattle.tk_claims.specs.Run.{Emits, IsRun, IsShared}
 use Rattle.tk_engine_lifecycle.proofs.SeparateTurns.{other_first, own_first}
 use Rattle.tk_engine_unit_events.specs.Covered.{IsCovered}
 use Rattle.tk_engine_unit_events.specs.Endings.{EndsAsItMay, IsStaticTest}
@@ -38,7 +38,7 @@ use Rattle.tk_engine_unit_events.specs.Units.{StepsAs}
 use Rattle.tk_engine_unit_events.proofs.Played.{any_kept, covered_by}
 use Rattle.tk_base.proofs.Lists.{get_below}
 use Rattle.std.proofs.lemmas.Bool.{and_parts, or_cases, or_left, or_right}
-use Rattle.tk_plan_laws.proofs.Lists.{zero_or}
+use Rattle.tk_run_laws.proofs.Lists.{zero_or}
 
 -- ---- the events of the workers
 

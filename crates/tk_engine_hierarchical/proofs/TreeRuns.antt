@@ -17,7 +17,7 @@ use Rattle.tk_plan.specs.Planned.{Outline}
 use Rattle.tk_plan.specs.Trees.{IsSplit, forest, grow, no_trees, tree_of}
 use Rattle.tk_queue_session.specs.Senders.{SenderView}
 use Rattle.tk_record.specs.Recorded.{Recorded}
-use Rattle.tk_engine_runs.specs.Run.{IsRun}
+use Rattle.tk_claims.specs.Run.{IsRun}
 use Rattle.tk_engine_execute.specs.Engines.{ExtendsAs}
 use Rattle.tk_engine_lifecycle.specs.Units.{KeepsAround, UnitsKeepLifecycle}
 use Rattle.tk_engine_unit_events.specs.Endings.{IsStaticTest}

@@ -3,7 +3,7 @@ use Rattle.std.specs.Prelude.{◌≡◌, ◌⊎◌, ℕ, ◌<◌, List, [], ◌�
 use Rattle.tk_plan.specs.Cutting.{units_of}
 use Rattle.tk_plan.specs.Planned.{Outline}
 use Rattle.tk_plan.specs.Trees.{forest}
-use Rattle.tk_engine_runs.specs.Run.{IsRun}
+use Rattle.tk_claims.specs.Run.{IsRun}
 use Rattle.tk_events.specs.declared.events.Event.{Event}
 use Rattle.tk_events.specs.declared.kinds.Kind.TheVariants.{Finished, Skipped, Started}
 use Rattle.tk_events.specs.declared.outcomes.Outcome.{Outcome}

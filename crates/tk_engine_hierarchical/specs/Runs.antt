@@ -1,7 +1,7 @@
 -- Which records are runs of an engine of tests by this many workers.
 use Rattle.std.specs.Prelude.{ℕ}
 use Rattle.tk_record.specs.Recorded.{Recorded}
-use Rattle.tk_engine_runs.specs.Run.{IsRun}
+use Rattle.tk_claims.specs.Run.{IsRun}
 use Rattle.tk_engine_hierarchical.specs.Laws.{may_of}
 use Rattle.tk_engine_hierarchical.specs.TreeRuns.{TestRules}
 use Rattle.tk_engine_unit_events.specs.Shapes.{ShapeView, frame}

@@ -2,7 +2,7 @@
 ghost use Rattle.std.specs.Prelude.{is_some};
 ghost use Rattle.tk_query_lifecycle.specs.KeepsLifecycle.{KeepsLifecycle};
 ghost use Rattle.tk_query_lifecycle.specs.NeverRan.{EachDueKeyRuns};
-ghost use Rattle.tk_plan_laws.specs.Laws.{IsKept};
+ghost use Rattle.tk_run_laws.specs.Laws.{IsKept};
 ghost use Rattle.tk_engine_hierarchical.specs.Laws.{FollowsPlan, HasOutcomes, HaveTurns, IsRunOf, UnitsNest, UnitsRanTrees};
 ghost use Rattle.tk_engine_hierarchical.specs.TreeRuns.{test_rules};
 

@@ -1,11 +1,10 @@
 //! The run of an engine of tests, and what holds of its record.
-ghost use Rattle.std.specs.Prelude.{◌≡◌, ◌↔◌, ℕ, ◌<◌, ◌≤◌, ◌⊎◌, Err, IfErr, IfOk, is_some};
+ghost use Rattle.std.specs.Prelude.{◌≡◌, ◌↔◌, ℕ, ◌<◌, ◌≤◌, ◌⊎◌, Err, IfOk, is_some};
 ghost use Rattle.tk_queue_session.specs.Limits.{capacity_of};
 ghost use Rattle.tk_query_lifecycle.specs.KeepsLifecycle.{KeepsLifecycle};
-ghost use Rattle.tk_engine_execute.specs.Faults.{IsFaultOfRun};
 ghost use Rattle.tk_engine_execute.specs.Results.{IsTallied};
 ghost use Rattle.tk_engine_execute.specs.declared.engines.UnitFault.{UnitFault};
-ghost use Rattle.tk_plan_laws.specs.Laws.{IsKept};
+ghost use Rattle.tk_run_laws.specs.Laws.{IsKept};
 ghost use Rattle.tk_engine_hierarchical.specs.Laws.{FollowsPlan, HasOutcomes, HaveTurns, IsRunOf};
 ghost use Rattle.tk_engine_hierarchical.specs.Laws.{UnitsNest, UnitsRanTrees};
 ghost use Rattle.tk_engine_hierarchical.specs.Runs.{IsRunBy};
@@ -97,8 +96,6 @@ pub fn run_tests<R: Threads + Wait + Sync, T: Tests + Sync, C: EventClock + Sync
         × ((capacity ≡ 0) ⊎ (MAX_CAPACITY < capacity))) }
     ensures unit { (unit : ℕ) (why : UnitFault) → result ≡ Err (RunFault.Engine unit why)
         → unit < count_units engine.now.shape }
-    ensures fault { IfErr result
-        (IsFaultOfRun workers (λ unit why. unit < count_units engine.now.shape)) }
 {
     let results = execute(rt, alloc, engine, workers, capacity)?;
     shows_laws(engine, &results);

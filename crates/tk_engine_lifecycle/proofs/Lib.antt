@@ -11,4 +11,3 @@ pub mod WholeRuns
 pub mod UnitEnds
 pub mod UnitProgress
 pub mod Steps
-pub mod Samples

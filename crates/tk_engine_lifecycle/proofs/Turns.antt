@@ -8,8 +8,8 @@ use Rattle.tk_events.specs.declared.events.Event.{Event}
 use Rattle.tk_events.specs.declared.events.Entry.{Entry}
 use Rattle.tk_record.specs.Mixing.{IsWorkerOf, of_worker}
 use Rattle.tk_queue_session.specs.Emission.{registrations}
-use Rattle.tk_engine_runs.specs.Claims.{Claims, times, once_below}
-use Rattle.tk_engine_runs.specs.Run.{Emits, IsShared}
+use Rattle.tk_claims.specs.Claims.{Claims, times, once_below}
+use Rattle.tk_claims.specs.Run.{Emits, IsShared}
 
 -- a worker ran a unit, which emitted these events
 pub record Turn : Type 0 where

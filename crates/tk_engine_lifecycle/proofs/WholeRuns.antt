@@ -10,7 +10,7 @@ use Rattle.tk_record.specs.Record.{IsRecord}
 use Rattle.tk_queue_session.specs.Emission.{entries_by}
 use Rattle.tk_query_lifecycle.specs.Lifecycle.{HasId, runs}
 use Rattle.tk_query_lifecycle.specs.KeepsLifecycle.{IsWhole, KeepsLifecycle, steps_of}
-use Rattle.tk_engine_runs.specs.Run.{IsRun}
+use Rattle.tk_claims.specs.Run.{IsRun}
 use Rattle.tk_engine_lifecycle.specs.Units.{Frame, KeepsAround, UnitsKeepLifecycle, run_alone}
 use Rattle.tk_engine_lifecycle.proofs.Splits.{Gives, InFirst, InSecond, get_split, in_parts, none_or_one}
 use Rattle.tk_engine_lifecycle.proofs.ByKey.{Registration, events, events-append, events_by, from_table, has_run, hits, hits-append, is_dynamic, later_id, one_id, registration_of, same_id, same_runs, same_steps, table_or_entry}

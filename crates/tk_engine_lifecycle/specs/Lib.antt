@@ -1,4 +1,4 @@
-pub use Rattle.tk_engine_runs.specs.Run
+pub use Rattle.tk_claims.specs.Run
 pub use Rattle.tk_query_lifecycle.specs.KeepsLifecycle
 pub mod Units
 pub mod UnderWay

@@ -2,7 +2,7 @@
 ghost use Rattle.std.specs.Prelude.{ℕ, List};
 ghost use Rattle.tk_ids.specs.IdText.{SegmentView};
 ghost use Rattle.tk_query_lifecycle.specs.KeepsLifecycle.{KeepsLifecycle};
-ghost use Rattle.tk_engine_runs.specs.Run.{IsRun};
+ghost use Rattle.tk_claims.specs.Run.{IsRun};
 ghost use Rattle.tk_engine_lifecycle.specs.Laws.{Begins, Closes, Finishes, Registers, Reports, Skips, Starts};
 ghost use Rattle.tk_engine_lifecycle.specs.Units.{UnitsKeepLifecycle};
 

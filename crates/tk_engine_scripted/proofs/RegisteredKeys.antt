@@ -4,7 +4,7 @@ use Rattle.std.specs.Prelude.{IsSome}
 use Rattle.std.specs.Option.{option_or}
 use Rattle.tk_ids.specs.declared.descriptors.Descriptor.{Descriptor}
 use Rattle.tk_plan.specs.declared.trees.nodes.NumberedNode.{NumberedNode}
-use Rattle.tk_plan_laws.specs.Scripts.{HasKey, key_of, position}
+use Rattle.tk_run_laws.specs.Scripts.{HasKey, key_of, position}
 use Rattle.tk_engine_scripted.specs.steps.{key_in, key_found}
 
 -- one registration more

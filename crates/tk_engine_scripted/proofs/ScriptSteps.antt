@@ -30,8 +30,8 @@ use Rattle.tk_plan.specs.Numbers.{in_order, IsNumbered}
 use Rattle.tk_plan.specs.Planned.{IsPlanned}
 use Rattle.tk_plan.specs.Events.{event}
 use Rattle.tk_plan.specs.StepEvents.{kind_of, payload_of}
-use Rattle.tk_plan_laws.specs.Scripts.{ArePlayable, IsPlayable, HasKey, id_at, is_registration, key_of, key_for, known_in, known_after, played, payload_of_node, registered, step_event, next_key}
-use Rattle.tk_plan_laws.specs.Laws.{ScriptsArePlayable, NodesAreFound}
+use Rattle.tk_run_laws.specs.Scripts.{ArePlayable, IsPlayable, HasKey, id_at, is_registration, key_of, key_for, known_in, known_after, played, payload_of_node, registered, step_event, next_key}
+use Rattle.tk_run_laws.specs.Laws.{ScriptsArePlayable, NodesAreFound}
 use Rattle.tk_engine_execute.specs.Engines.{IsSameSender}
 use Rattle.tk_engine_execute.proofs.Emitted.{registrations-append}
 use Rattle.tk_engine_scripted.specs.steps.{key_in, noted, key_found, IsPlayed, IsRegistered, IsEmitted, begun}

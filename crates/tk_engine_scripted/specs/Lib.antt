@@ -5,9 +5,9 @@ pub use Rattle.tk_engine_execute.specs.Grown
 pub use Rattle.tk_engine_execute.specs.Sinks
 pub use Rattle.tk_engine_execute.specs.Results
 pub use Rattle.tk_engine_execute.specs.FaultTexts
-pub use Rattle.tk_plan_laws.specs.Scripts
-pub use Rattle.tk_plan_laws.specs.Listening
-pub use Rattle.tk_plan_laws.specs.Reports
-pub use Rattle.tk_plan_laws.specs.Laws
+pub use Rattle.tk_run_laws.specs.Scripts
+pub use Rattle.tk_run_laws.specs.Listening
+pub use Rattle.tk_run_laws.specs.Reports
+pub use Rattle.tk_run_laws.specs.Laws
 pub mod Plays
 pub mod steps

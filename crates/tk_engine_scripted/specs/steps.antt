@@ -14,7 +14,7 @@ use Rattle.tk_plan.specs.Events.{event}
 use Rattle.tk_plan.specs.StepEvents.{kind_of, payload_of}
 use Rattle.tk_plan.specs.declared.trees.nodes.NumberedNode.{NumberedNode}
 use Rattle.tk_plan.specs.declared.scripts.steps.Step.{Step}
-use Rattle.tk_plan_laws.specs.Scripts.{NextKeysAreFree, known_in, next_key, played}
+use Rattle.tk_run_laws.specs.Scripts.{NextKeysAreFree, known_in, next_key, played}
 
 -- the key of a node, if it was noted
 abbrev pub kept : Keys → ℕ → Option ℕ

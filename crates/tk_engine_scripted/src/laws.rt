@@ -3,14 +3,14 @@ ghost use Rattle.std.specs.Prelude.{ℕ};
 ghost use Rattle.tk_query_lifecycle.specs.KeepsLifecycle.{KeepsLifecycle};
 ghost use Rattle.tk_query_lifecycle.specs.NeverRan.{EachDueKeyRuns};
 ghost use Rattle.tk_report_text.specs.Labels.{labels};
-ghost use Rattle.tk_plan_laws.specs.Laws.{IsKept};
-ghost use Rattle.tk_plan_laws.specs.Listening.{Listens};
-ghost use Rattle.tk_plan_laws.specs.Scripts.{IsRunOf};
+ghost use Rattle.tk_run_laws.specs.Laws.{IsKept};
+ghost use Rattle.tk_run_laws.specs.Listening.{Listens};
+ghost use Rattle.tk_run_laws.specs.Scripts.{IsRunOf};
 
 use crate::scripted::Scripted;
 use tk_engine_execute::Results;
 pub use tk_engine_execute::laws::{each_worker_has_its_list, limits};
-pub use tk_plan_laws::laws::{
+pub use tk_run_laws::laws::{
     nodes_are_found, report_is_unique, scripts_are_playable, stamps_are_positions,
 };
 
@@ -24,7 +24,7 @@ pub fn listener(engine: &Scripted, results: &Results)
     let _ = results;
     // For the proof: the plan's invariant, which a call on the plan shows.
     let _table = engine.plan().table();
-    tk_plan_laws::laws::listener();
+    tk_run_laws::laws::listener();
 }
 
 /// Each record that is a run of the engine keeps the lifecycle, its root, and each static child of
@@ -40,5 +40,5 @@ pub fn lifecycle(engine: &Scripted, results: &Results)
     let _ = results;
     // For the proof: the plan's invariant, which a call on the plan shows.
     let _table = engine.plan().table();
-    tk_plan_laws::laws::lifecycle();
+    tk_run_laws::laws::lifecycle();
 }

@@ -7,7 +7,7 @@ ghost use Rattle.tk_plan.specs.Cutting.{script_of, units_of};
 ghost use Rattle.tk_plan.specs.Numbers.{IsNumbered};
 ghost use Rattle.tk_plan.specs.Planned.{IsPlanned};
 ghost use Rattle.tk_plan.specs.Trees.{forest};
-ghost use Rattle.tk_plan_laws.specs.Scripts.{may, played, next_key};
+ghost use Rattle.tk_run_laws.specs.Scripts.{may, played, next_key};
 ghost use Rattle.tk_engine_scripted.specs.steps.{kept, IsPlayed, IsRegistered, IsEmitted, begun};
 ghost use Rattle.tk_engine_scripted.specs.Plays.{IsPlayFault};
 
@@ -17,7 +17,7 @@ use std::sync::Wait;
 use tk_engine_execute::{Sink, UnitFault};
 use tk_events::Event;
 use tk_plan::{Act, Plan, Step};
-use tk_plan_laws::laws::{nodes_are_found, scripts_are_playable};
+use tk_run_laws::laws::{nodes_are_found, scripts_are_playable};
 
 // Emits the event of a step that is no registration.
 fn emit_step<R: Wait, S: Sink>(

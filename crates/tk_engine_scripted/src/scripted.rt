@@ -48,7 +48,7 @@ impl Engine for Scripted {
     ghost use Rattle.std.specs.Prelude.{length};
     ghost use Rattle.tk_plan.specs.Trees.{forest};
     ghost use Rattle.tk_plan.specs.Cutting.{before_of, after_of, units_of};
-    ghost use Rattle.tk_plan_laws.specs.Scripts.{may as plays};
+    ghost use Rattle.tk_run_laws.specs.Scripts.{may as plays};
     ghost use Rattle.tk_plan.specs.Masks.{need_of};
     ghost use Rattle.tk_engine_scripted.specs.Plays.{IsPlayFault};
 

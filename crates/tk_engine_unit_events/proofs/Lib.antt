@@ -1,6 +1,8 @@
 mod Children
+pub mod Emissions
 pub mod Emitted
 pub mod KeySpans
+pub mod LockedTables
 mod Outer
 pub mod Owned
 pub mod Played

@@ -15,8 +15,8 @@ use Rattle.tk_plan.specs.Numbers.{IsNumbered}
 use Rattle.tk_plan.specs.Planned.{IsPlanned, Outline}
 use Rattle.tk_plan.specs.Trees.{forest, number_of}
 use Rattle.tk_engine_execute.specs.Engines.{IsStaticEvent}
-use Rattle.tk_plan_laws.specs.Spines.{ArePlaced, end_of, IsOfUnit, IsOnSpine, IsSpineEvent}
-use Rattle.tk_plan_laws.specs.Spines.{SpineEmits, SpineKeepsLifecycle, SpineRuns}
+use Rattle.tk_run_laws.specs.Spines.{ArePlaced, end_of, IsOfUnit, IsOnSpine, IsSpineEvent}
+use Rattle.tk_run_laws.specs.Spines.{SpineEmits, SpineKeepsLifecycle, SpineRuns}
 use Rattle.tk_engine_lifecycle.specs.Units.{KeepsAround, UnitsKeepLifecycle, run_alone}
 use Rattle.tk_engine_unit_events.specs.Owners.{AreOwners}
 use Rattle.tk_engine_unit_events.specs.Shapes.{HavePlaces, IsInUnit, ShapeView, count_units, frame}

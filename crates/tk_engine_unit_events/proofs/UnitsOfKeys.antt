@@ -11,9 +11,9 @@ use Rattle.tk_plan.specs.Numbers.{of_kind}
 use Rattle.tk_plan.specs.Planned.{IsPlanned, Outline}
 use Rattle.tk_plan.specs.Trees.{IsForest, Tree, forest, number_of, tree_of}
 use Rattle.tk_plan.specs.declared.trees.nodes.NumberedNode.{NumberedNode}
-use Rattle.tk_plan_laws.specs.Spines.{ArePlaced, IsOfUnit, count_static, end_of}
+use Rattle.tk_run_laws.specs.Spines.{ArePlaced, IsOfUnit, count_static, end_of}
 use Rattle.tk_engine_unit_events.specs.Owners.{AreOwners}
-use Rattle.tk_plan_laws.proofs.SpinePlaces.{count-append}
+use Rattle.tk_run_laws.proofs.SpinePlaces.{count-append}
 
 -- ---- counting
 

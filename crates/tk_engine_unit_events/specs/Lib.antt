@@ -10,6 +10,7 @@ pub mod Covered
 pub mod Nesting
 pub mod Units
 pub mod UnitSteps
+pub mod Emitted
 pub mod Standing
 pub mod Taken
 pub mod Refusals

@@ -8,7 +8,7 @@ use Rattle.tk_ids.specs.declared.descriptors.Descriptor.{Descriptor}
 use Rattle.tk_plan.specs.Cutting.{units_of}
 use Rattle.tk_plan.specs.Planned.{Outline}
 use Rattle.tk_plan.specs.Trees.{forest}
-use Rattle.tk_plan_laws.specs.Spines.{IsOfUnit, IsOnSpine}
+use Rattle.tk_run_laws.specs.Spines.{IsOfUnit, IsOnSpine}
 
 -- whether two ids have the same segments
 abbrev pub same_id : List SegmentView → List SegmentView → Bool

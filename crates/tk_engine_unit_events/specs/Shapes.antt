@@ -7,7 +7,7 @@ use Rattle.tk_query_lifecycle.specs.Lifecycle.{runs}
 use Rattle.tk_plan.specs.Cutting.{Piece, after_of, before_of, pieces_of, units_of}
 use Rattle.tk_plan.specs.Planned.{Outline}
 use Rattle.tk_plan.specs.Trees.{forest, number_of}
-use Rattle.tk_plan_laws.specs.Spines.{end_of}
+use Rattle.tk_run_laws.specs.Spines.{end_of}
 use Rattle.tk_engine_lifecycle.specs.Units.{Frame}
 use Rattle.tk_engine_unit_events.specs.Owners.{owner_of}
 use Rattle.tk_engine_unit_events.specs.Units.{RunsUnit, UnitKeys}

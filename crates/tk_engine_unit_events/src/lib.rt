@@ -1,6 +1,11 @@
-//! The events of a unit of tests: a sink that takes only what keeps the lifecycle.
+//! What a unit emits.
+//!
+//! For engines by hand a constructor of each kind of event, and calls that emit one into a sink. For
+//! engines of tests [`UnitEvents`], a sink that takes only what keeps the lifecycle.
 #![tactic(auto)]
 
+mod calls;
+mod events;
 mod leases;
 mod running_keys;
 mod shapes;
@@ -10,6 +15,8 @@ mod unit_events;
 mod unit_ids;
 mod unit_runs;
 
+pub use calls::{emit, finish, publish_file, register, report, skip, start};
+pub use events::{file_published, finished, reported, skipped, started};
 pub use leases::Lease;
 pub use shapes::Shape;
 pub use unit_bodies::UnitBody;

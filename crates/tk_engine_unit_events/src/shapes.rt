@@ -4,7 +4,7 @@ ghost use Rattle.std.specs.Arc.{arc_value};
 ghost use Rattle.tk_ids.specs.Table.{AreDifferent};
 ghost use Rattle.tk_queue_session.specs.Emission.{entries_by};
 ghost use Rattle.tk_query_lifecycle.specs.Lifecycle.{runs};
-ghost use Rattle.tk_plan_laws.specs.Spines.{count_static, end_of};
+ghost use Rattle.tk_run_laws.specs.Spines.{count_static, end_of};
 ghost use Rattle.tk_engine_lifecycle.specs.Units.{KeepsAround};
 ghost use Rattle.tk_plan.specs.Parents.{HasParentAt};
 ghost use Rattle.tk_plan.specs.Planned.{IsPlanned};
@@ -17,7 +17,7 @@ use std::marker::Model;
 use std::sync::Arc;
 use tk_ids::{MAX_DESCRIPTORS, Table};
 use tk_plan::{NumberedNode, Plan, UnitTree};
-use tk_plan_laws::laws::spine;
+use tk_run_laws::laws::spine;
 
 /// A plan, with the unit and the parent of each static key.
 #[derive(Drop)]

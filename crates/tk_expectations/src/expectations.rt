@@ -265,7 +265,8 @@ impl<'r> Expect<'r> {
 
     /// Expects that the report of the record is this text. The question `report`.
     ///
-    /// The failure shows the first lines that differ, as `diff -u` does.
+    /// The failure shows the lines that differ, at most 40, with those around them: first those of
+    /// the ids and their events, then the counts.
     pub fn report(self, text: &str) -> Result<Expect<'r>, Failure>
         ensures { IsJudged self.entry (ComparesReport self.entry.«record».now text.now) result }
     {

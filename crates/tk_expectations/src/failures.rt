@@ -27,7 +27,7 @@ impl Unmet {
     }
 
     /// Lends what `ask explain` writes: the answer, and why it is the answer. Of a report these are
-    /// the first lines that differ.
+    /// the lines that differ.
     pub fn explanation(&self) -> &[u8]
         ensures { result.now ≡ self.now.explanation.bytes }
     {

@@ -1,16 +1,18 @@
-//! The first lines in which two texts differ.
+//! The lines in which two reports differ.
 
-use crate::failures::Failure;
 use std::alloc::{AllocError, Global};
 
-/// How many lines that don't differ are shown before those that do, and after them.
+/// How many lines that agree are shown before lines that differ, and after them.
 const CONTEXT: usize = 3;
 
-/// How many lines that differ are shown of each text.
-const MAX_SHOWN: usize = 20;
+/// How many lines that differ are shown.
+const MAX_SHOWN: usize = 40;
 
 /// How many lines of both texts together are passed over to find where they agree again.
 const MAX_APART: usize = 500;
+
+/// How many lines of a report are counts. Its tree of ids stands below them.
+const COUNTS: usize = 9;
 
 fn lines_of<'t>(alloc: Global, text: &'t str) -> Result<Vec<&'t str>, AllocError> {
     let mut lines = Vec::new(alloc);
@@ -18,6 +20,26 @@ fn lines_of<'t>(alloc: Global, text: &'t str) -> Result<Vec<&'t str>, AllocError
         lines.push(line)?;
     }
     Ok(lines)
+}
+
+// The lines of a text that are not compared yet, and the number of the first of them.
+#[derive(Clone, Copy)]
+struct Rest<'s, 't> {
+    lines: &'s [&'t str],
+    number: usize,
+}
+
+impl<'s, 't> Rest<'s, 't> {
+    fn of(lines: &'s [&'t str]) -> Rest<'s, 't> {
+        Rest { lines, number: 1 }
+    }
+
+    // Takes the first lines away, and lends them.
+    fn take(self, count: usize) -> (&'s [&'t str], Rest<'s, 't>) {
+        let (taken, lines) = self.lines.split_at(count.min(self.lines.len()));
+        let number = self.number.saturating_add(taken.len());
+        (taken, Rest { lines, number })
+    }
 }
 
 // Counts the first lines that are the same in both texts.
@@ -49,54 +71,112 @@ fn count_apart(expected: &[&str], actual: &[&str]) -> (usize, usize) {
     (expected.len(), actual.len())
 }
 
-// Adds lines after a mark, and how many there are more than are shown.
+// Adds lines, each after a mark.
 fn add_lines(text: &mut String, mark: &str, lines: &[&str]) -> Result<(), AllocError> {
-    for line in lines.iter().take(MAX_SHOWN) {
+    for line in lines {
         write!(text, "{mark}{line}\n")?;
-    }
-    let more = lines.len().saturating_sub(MAX_SHOWN);
-    if more > 0 {
-        write!(text, "{mark}.. and {more} more\n")?;
     }
     Ok(())
 }
 
-// Adds the lines in which two texts first differ, with those around them, as `diff -u` shows them.
-fn add_difference(text: &mut String, expected: &[&str], actual: &[&str]) -> Result<(), AllocError> {
-    let same = count_same(expected, actual)
-        .min(expected.len())
-        .min(actual.len());
-    let (before, expected) = expected.split_at(same);
-    let (_, actual) = actual.split_at(same);
-    let before = before.split_at(same.saturating_sub(CONTEXT)).1;
-    let (removed, added) = count_apart(expected, actual);
-    let (removed, after) = expected.split_at(removed.min(expected.len()));
-    let (added, _) = actual.split_at(added.min(actual.len()));
-    let after = after.split_at(after.len().min(CONTEXT)).0;
-    let first = same.saturating_sub(before.len()).saturating_add(1);
-    let around = before.len().saturating_add(after.len());
-    let of_expected = around.saturating_add(removed.len());
-    let of_actual = around.saturating_add(added.len());
-    write!(text, "@@ -{first},{of_expected} +{first},{of_actual} @@\n")?;
-    add_lines(text, " ", before)?;
-    add_lines(text, "-", removed)?;
-    add_lines(text, "+", added)?;
-    add_lines(text, " ", after)
+// The differences of two texts, written as `diff -u` writes them.
+#[derive(Drop)]
+struct Differences {
+    text: String,
+    // How many lines that differ it shows, and how many it doesn't.
+    shown: usize,
+    left_out: usize,
 }
 
-/// Shows the first lines in which a text differs from the expected one, as `diff -u` does.
+impl Differences {
+    fn is_full(&self) -> bool {
+        self.shown >= MAX_SHOWN
+    }
+
+    // Adds lines that differ, as many as are shown still.
+    fn add_changed(&mut self, mark: &str, lines: &[&str]) -> Result<(), AllocError> {
+        let room = MAX_SHOWN.saturating_sub(self.shown);
+        let (shown, left_out) = lines.split_at(room.min(lines.len()));
+        self.shown = self.shown.saturating_add(shown.len());
+        self.left_out = self.left_out.saturating_add(left_out.len());
+        add_lines(&mut self.text, mark, shown)
+    }
+
+    // Adds the head of a difference, and the last lines before it.
+    fn add_head(&mut self, before: &[&str], at: usize, other: usize) -> Result<(), AllocError> {
+        if self.is_full() {
+            return Ok(());
+        }
+        write!(&mut self.text, "@@ -{at} +{other} @@\n")?;
+        let passed = before.len().saturating_sub(CONTEXT);
+        add_lines(&mut self.text, " ", before.split_at(passed).1)
+    }
+
+    // Adds the lines up to which two texts differ, and a few in which they agree again. Gives what
+    // stands after the lines that differ.
+    fn add_next<'s, 't>(
+        &mut self,
+        expected: Rest<'s, 't>,
+        actual: Rest<'s, 't>,
+    ) -> Result<(Rest<'s, 't>, Rest<'s, 't>), AllocError> {
+        let (removed, added) = count_apart(expected.lines, actual.lines);
+        let (removed, expected) = expected.take(removed);
+        let (added, actual) = actual.take(added);
+        self.add_changed("-", removed)?;
+        self.add_changed("+", added)?;
+        if !self.is_full() {
+            let after = count_same(expected.lines, actual.lines).min(CONTEXT);
+            add_lines(&mut self.text, " ", expected.take(after).0)?;
+        }
+        Ok((expected, actual))
+    }
+
+    // Adds all lines in which two texts differ, with those around them.
+    fn add<'s, 't>(
+        &mut self,
+        expected: Rest<'s, 't>,
+        actual: Rest<'s, 't>,
+    ) -> Result<(), AllocError> {
+        let (mut expected, mut actual) = (expected, actual);
+        for _ in 0..usize::MAX {
+            let same = count_same(expected.lines, actual.lines);
+            let (before, removed) = expected.take(same);
+            let (_, added) = actual.take(same);
+            if removed.lines.is_empty() && added.lines.is_empty() {
+                break;
+            }
+            self.add_head(before, removed.number, added.number)?;
+            (expected, actual) = self.add_next(removed, added)?;
+        }
+        Ok(())
+    }
+}
+
+/// Shows the lines in which a report differs from the expected one: those of its tree first, then
+/// its counts. A line `@@ -N +M @@` has the numbers, from 1, of the first line that differs.
 pub(crate) fn difference(
     alloc: Global,
     expected: &str,
     actual: &str,
 ) -> Result<String, AllocError> {
-    let mut text = String::from_str(alloc, "--- expected\n+++ actual\n")?;
     let expected = lines_of(alloc, expected)?;
     let actual = lines_of(alloc, actual)?;
+    let mut found = Differences {
+        text: String::from_str(alloc, "--- expected\n+++ actual\n")?,
+        shown: 0,
+        left_out: 0,
+    };
     if expected == actual {
-        text.push_str("only the ends of lines differ\n")?;
-        return Ok(text);
+        found.text.push_str("only the ends of lines differ\n")?;
+        return Ok(found.text);
     }
-    add_difference(&mut text, &expected, &actual)?;
-    Ok(text)
+    let (expected_counts, expected_tree) = Rest::of(&expected).take(COUNTS);
+    let (actual_counts, actual_tree) = Rest::of(&actual).take(COUNTS);
+    found.add(expected_tree, actual_tree)?;
+    found.add(Rest::of(expected_counts), Rest::of(actual_counts))?;
+    if found.left_out > 0 {
+        let more = found.left_out;
+        write!(&mut found.text, "and {more} more lines differ\n")?;
+    }
+    Ok(found.text)
 }

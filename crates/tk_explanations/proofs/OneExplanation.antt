@@ -19,23 +19,21 @@ use Rattle.tk_query.specs.declared.answers.InOrder.{InOrder}
 use Rattle.tk_query.specs.declared.answers.InOrder.TheVariants as in_order
 use Rattle.tk_query.specs.declared.answers.Loose.{Loose}
 use Rattle.tk_query.specs.declared.answers.Loose.TheVariants as loose
-use Rattle.tk_query.specs.declared.execution.Execution.{Execution}
 use Rattle.tk_query_locks.specs.declared.answers.LockAnswer.{LockAnswer}
 use Rattle.tk_query_locks.specs.declared.answers.LockAnswer.TheVariants as lock_answers
 use Rattle.tk_query_locks.specs.AnswerTexts.{lock_answer_text, lock_answer_yes}
 use Rattle.tk_query_locks.proofs.AnswerIsUnique.{one_answer}
 use Rattle.tk_query.specs.AnswerTexts.{exact_text, exact_yes, exclusive_text, exclusive_yes, in_order_text, in_order_yes, loose_text, loose_yes, position_text}
 use Rattle.tk_query.specs.Asked.{fits}
-use Rattle.tk_query.specs.ExecutionSteps.{step_at}
 use Rattle.tk_query.specs.InOrder.{IsLeastInTurn, IsNextFit}
 use Rattle.tk_query.specs.Laws.{AreAlike}
 use Rattle.tk_query.proofs.AnswerIsUnique.{one_exact, one_exclusive, one_in_order, one_list, one_loose, same_positions}
 use Rattle.tk_query.proofs.AnswerIsUnique.{as_many}
-use Rattle.tk_query.proofs.ExclusionLemmas.{one_span}
+use Rattle.tk_query.proofs.EndLemmas.{one_end}
 use Rattle.tk_query_nearest.specs.Nearness.{IsNearest}
 use Rattle.tk_query_nearest.proofs.NearestIsUnique.{one_nearest}
-use Rattle.tk_explanations.specs.Collisions.{AreCollisionRows, ExplainsExclusive, IsExclusiveExplanation, StartsAt, holder_rows, overlap_rows, writers_said}
-use Rattle.tk_explanations.specs.LockCollisions.{AreLockRows, ExplainsLocks, IsLockExplanation, holding_row}
+use Rattle.tk_explanations.specs.Collisions.{AreCollisionRows, ExplainsExclusive, IsExclusiveExplanation, StartsAt, overlap_rows, writers_said}
+use Rattle.tk_explanations.specs.LockCollisions.{AreLockRows, ExplainsLocks, IsLockExplanation}
 use Rattle.tk_explanations.specs.Laws.{IsUnique}
 use Rattle.tk_explanations.specs.Lifecycles.{ExplainsLifecycle, IsLifecycleExplanation, is_kept, lifecycle_rows}
 use Rattle.tk_explanations.specs.Lists.{ExplainsExecutions, ExplainsList, listed_execution}
@@ -44,6 +42,7 @@ use Rattle.tk_explanations.specs.Matches.{AreFirstFits, AreInOrderRows, AreLoose
 use Rattle.tk_explanations.specs.Rows.{AsText, rows_text}
 use Rattle.tk_explanations.specs.Statistics.{ExplainsStatistics}
 use Rattle.tk_explanations.specs.declared.rows.Row.{Row}
+use Rattle.tk_explanations.specs.declared.rows.Span.{Span}
 use Rattle.tk_explanations.specs.declared.rows.Row.TheVariants.{Line, Overlap, OverlapOver}
 
 -- at most one answer, and at most one list of rows
@@ -155,8 +154,9 @@ one_execution_list asked a b s t x y =
 
 -- ---- collisions
 
-one_start : (asked : Selected) (p : ℕ) (x y : Execution) → StartsAt asked p x → StartsAt asked p y → x ≡ y
-one_start asked p x y a b = one_span (step_at asked) x y a.span b.span (a.first ∙ sym b.first)
+one_start : (asked : Selected) (p : ℕ) (x y : Span) → StartsAt asked p x → StartsAt asked p y → x ≡ y
+one_start asked p x y a b =
+    ap₂ (λ (m n : ℕ). record { start = m; end = n }) (a.start_is ∙ sym b.start_is) (one_end asked p x.end y.end a.ends b.ends)
 
 module _ (asked : Selected) (writers readers : Condition) where
   collision_below :
@@ -167,14 +167,10 @@ module _ (asked : Selected) (writers readers : Condition) where
   collision_below (exclusives.No p q) xs ys a b =
       let said = writers_said asked writers readers p q in
       a.4
-      ∙ ap₂ (λ (x y : Execution). overlap_rows x y (Overlap x y said))
+      ∙ ap₂ (λ (x y : Span). overlap_rows asked.recorded x y (Overlap x y said))
       (one_start asked p a.0 b.0 a.2 b.2) (one_start asked q a.1 b.1 a.3 b.3)
       ∙ sym b.4
-  collision_below exclusives.NoPair xs ys a b =
-      a.2
-      ∙ ap (λ (l : List Execution). holder_rows asked l writers readers)
-      (one_list asked a.0 b.0 a.1 b.1)
-      ∙ sym b.2
+  collision_below exclusives.NoPair xs ys a b = a ∙ sym b
 
   exclusive_rows_one : AreOne (IsExclusiveExplanation asked writers readers)
   exclusive_rows_one a b xs ys x y =
@@ -197,13 +193,10 @@ module _ (asked : Selected) where
   lock_below lock_answers.Yes xs ys a b = a ∙ sym b
   lock_below (lock_answers.No p q name) xs ys a b =
       a.4
-      ∙ ap₂ (λ (x y : Execution). overlap_rows x y (OverlapOver x y name))
+      ∙ ap₂ (λ (x y : Span). overlap_rows asked.recorded x y (OverlapOver x y name))
       (one_start asked p a.0 b.0 a.2 b.2) (one_start asked q a.1 b.1 a.3 b.3)
       ∙ sym b.4
-  lock_below lock_answers.NoPair xs ys a b =
-      a.2
-      ∙ ap (λ (l : List Execution). holding_row asked.recorded l ∷ []) (one_list asked a.0 b.0 a.1 b.1)
-      ∙ sym b.2
+  lock_below lock_answers.NoPair xs ys a b = a ∙ sym b
 
   lock_rows_one : AreOne (IsLockExplanation asked)
   lock_rows_one a b xs ys x y =

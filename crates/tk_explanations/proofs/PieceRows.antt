@@ -8,8 +8,7 @@ use Rattle.tk_streams.proofs.PieceLemmas.{adds_as, adds_both, adds_none}
 use Rattle.tk_record.specs.Recorded.{Recorded}
 use Rattle.tk_record_text.proofs.WritingLemmas.{taken_item}
 use Rattle.tk_events.specs.declared.events.Entry.{Entry}
-use Rattle.tk_explanations.specs.Rows.{event_row, row_line, row_text, rows_text}
-use Rattle.tk_explanations.specs.declared.rows.Note.{Note}
+use Rattle.tk_explanations.specs.Rows.{row_line, row_text, rows_text}
 use Rattle.tk_explanations.specs.declared.rows.Row.{Row}
 
 pub adds_three : (a b c d : Outgoing) (xs ys zs : List ℕ) → Adds a b xs → Adds b c ys → Adds c d zs → Adds a d (xs ++ ys ++ zs)
@@ -37,5 +36,5 @@ get_past (x ∷ xs) zero h = absurd (true≢false (sym (h (omega arith))))
 get_past (x ∷ xs) (suc k) h = get_past xs k (λ lt. h (omega arith))
 
 -- no event stands past the end, so that nothing is added
-pub none_added : (a : Outgoing) (r : Recorded) (position : ℕ) (note : Note) → (position < length r.entries → false ≡ true) → Adds a a (event_row r position (slice_get r.entries position) note)
-none_added a r position note past = adds_as a a _ _ (ap (λ (o : Option Entry). event_row r position o note) (sym (get_past r.entries position past))) (adds_none a)
+pub none_added : (a : Outgoing) (text : Option Entry → List ℕ) (entries : List Entry) (position : ℕ) → text None ≡ [] → (position < length entries → false ≡ true) → Adds a a (text (slice_get entries position))
+none_added a text entries position none past = adds_as a a _ _ (sym none ∙ ap text (sym (get_past entries position past))) (adds_none a)

@@ -1,6 +1,6 @@
 -- The rows of explanations, as text.
 use Rattle.std.specs.Prelude.{◌≡◌, ℕ, Bool, List, [], ◌∷◌, ◌++◌, codes, Option, Some, None}
-use Rattle.std.specs.Prelude.{slice_get}
+use Rattle.std.specs.Prelude.{if◌then◌else◌, length, nat_lt, slice_get}
 use Rattle.std.specs.List.{flat_map}
 use Rattle.std.specs.Fmt.{decimal}
 use Rattle.tk_events.specs.declared.events.Entry.{Entry}
@@ -9,12 +9,12 @@ use Rattle.tk_record.specs.Entries.{desc}
 use Rattle.tk_record.specs.Recorded.{Recorded}
 use Rattle.tk_record.specs.Lines.{entry_line}
 use Rattle.tk_query.specs.AnswerTexts.{blank}
-use Rattle.tk_query.specs.declared.execution.Execution.{Execution}
 pub use Rattle.tk_explanations.specs.DescriptorTexts.{quotation_mark, id_field, descriptor_text}
 use Rattle.tk_explanations.specs.Sentences.{sentence_text}
 use Rattle.tk_explanations.specs.declared.rows.Note.{Note}
 use Rattle.tk_explanations.specs.declared.rows.Note.TheVariants.{Nothing, Lacks, NotAfter}
 use Rattle.tk_explanations.specs.declared.rows.Row.{Row}
+use Rattle.tk_explanations.specs.declared.rows.Span.{Span}
 use Rattle.tk_explanations.specs.declared.rows.Row.TheVariants.{Line, Condition, Event, NoneLeft}
 use Rattle.tk_explanations.specs.declared.rows.Row.TheVariants.{Counts, Overlap, OverlapOver}
 use Rattle.tk_explanations.specs.declared.rows.Row.TheVariants.{Executions, More, Sentence}
@@ -37,11 +37,20 @@ event_row r position None note = []
 event_row r position (Some e) note =
     codes "    " ++ decimal position ++ codes ": " ++ event_text r e ++ note_text note
 
--- the descriptor of an execution, and its first and its last position
-abbrev pub span_text : Recorded → Execution → List ℕ
+-- the descriptor of an entry
+abbrev pub descriptor_of : Recorded → Option Entry → List ℕ
+descriptor_of r None = []
+descriptor_of r (Some e) = descriptor_text (desc r e.event.key)
+
+-- the position at which an execution ends, or that it lasts to the end of the record
+abbrev pub end_text : Recorded → ℕ → List ℕ
+end_text r n = if nat_lt n (length r.entries) then decimal n else codes "the end"
+
+-- the descriptor of an execution, the position of its start, and where it ends
+abbrev pub span_text : Recorded → Span → List ℕ
 span_text r x =
-    descriptor_text (desc r x.key) ++ codes " (" ++ decimal x.first ++ codes " to "
-    ++ decimal x.last ++ codes ")"
+    descriptor_of r (slice_get r.entries x.start) ++ codes " (" ++ decimal x.start
+    ++ codes " to " ++ end_text r x.end ++ codes ")"
 
 -- which of two executions are writers'
 abbrev pub writers_text : Writers → List ℕ

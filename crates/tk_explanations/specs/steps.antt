@@ -1,6 +1,6 @@
 -- What private clauses and proofs alone name.
-use Rattle.std.specs.Prelude.{◌≡◌, ℕ, Bool, List, Option, Result, Ok, Err, [], if◌then◌else◌, false}
-use Rattle.std.specs.Prelude.{◌&&◌, ◌==◌, get_or, nat_lt, ◌++◌}
+use Rattle.std.specs.Prelude.{◌≡◌, ℕ, Bool, List, Option, Result, Ok, Err, [], if◌then◌else◌}
+use Rattle.std.specs.Prelude.{◌++◌}
 use Rattle.std.specs.Io.KnownBytes.{Appends}
 use Rattle.tk_streams.specs.Stream.{AppendsPrefix}
 use Rattle.tk_explanations.specs.declared.faults.ExplainFault.{ExplainFault}
@@ -8,8 +8,6 @@ use Rattle.tk_explanations.specs.declared.faults.ExplainFault.TheVariants.{Devic
 use Rattle.tk_events.specs.declared.events.Entry.{Entry}
 use Rattle.tk_record.specs.Recorded.{Recorded}
 use Rattle.tk_explanations.specs.Lists.{listed_event}
-use Rattle.tk_query.specs.Executions.{has_started}
-use Rattle.tk_query.specs.declared.execution.Execution.{Execution}
 use Rattle.tk_explanations.specs.declared.rows.Row.{Row}
 use Rattle.tk_events.specs.declared.kinds.Kind.TheVariants.{Started}
 use Rattle.tk_query_lifecycle.specs.Lifecycle.{is_event}
@@ -29,14 +27,6 @@ IsWritten is_yes text old new (Err Memory) = ⊥
 abbrev pub listed_where : Recorded → Bool → ℕ → Entry → List ℕ
 listed_where r flag position e =
     if flag then listed_event r (record { position = position; entry = e }) else []
-
--- whether an execution that is a start and a finish, or a skip, starts at this position
-abbrev pub is_from : ℕ → Execution → Bool
-is_from start x = (x.first == start) && nat_lt start x.last
-
--- whether it is a start and a finish, and the flag at the position of the start is set
-abbrev pub is_flagged : List Bool → Execution → Bool
-is_flagged flags x = has_started x && get_or flags x.first false
 
 -- rows of which P holds were added
 abbrev pub AddsRows : (List Row → Type 0) → List Row → List Row → Type 0

@@ -1,46 +1,28 @@
 //! Why executions that conflict did not keep away from each other.
-ghost use Rattle.std.specs.Prelude.{◌≡◌, ◌++◌, true, count_by, IfOk, OnOk, IsErrOf};
-ghost use Rattle.std.specs.List.{find};
+ghost use Rattle.std.specs.Prelude.{◌≡◌, ◌++◌, true, get_or, IfOk, OnOk, IsErrOf};
 ghost use Rattle.tk_query_conditions.specs.CondOf.{cond_of};
+ghost use Rattle.tk_query.specs.Ends.{is_start};
 ghost use Rattle.tk_query.specs.Exclusive.{IsExclusive};
-ghost use Rattle.tk_query.specs.ExecutionSteps.{step_at};
-ghost use Rattle.tk_query.specs.Executions.{AreExecutions};
-ghost use Rattle.tk_query.specs.declared.execution.Execution.{Execution};
 ghost use Rattle.tk_explanations.specs.Explained.{IsExplained};
-ghost use Rattle.tk_explanations.specs.Collisions.{AreCollisionRows, ExplainsExclusive, IsExclusiveExplanation, StartsAt, held_rows, holder_rows, names_some, overlap_rows, writers_said};
-ghost use Rattle.tk_explanations.specs.steps.{is_flagged, is_from, AddsRows};
+ghost use Rattle.tk_explanations.specs.Collisions.{AreCollisionRows, ExplainsExclusive, IsExclusiveExplanation, StartsAt, finish_rows, held_rows, holder_rows, names_some, overlap_rows, writers_said};
+ghost use Rattle.tk_explanations.specs.steps.{AddsRows};
 
 use crate::explanations::Explanation;
 use crate::faults::ExplainFault;
 use crate::match_rows::add_condition;
-use crate::rows::{Note, Row, Writers};
+use crate::rows::{Note, Row, Span, Writers};
 use std::alloc::{AllocError, Global};
-use tk_ids::Text;
-use tk_lanes::Flags;
-use tk_query::{Ending, Exclusive, Execution, Executions, exclusive, executions, fitting};
+use tk_query::{Exclusive, ends_of, exclusive, fitting, select};
 use tk_query_conditions::Condition;
 use tk_record::Events;
 use tk_streams::Target;
 
-// Finds the execution that starts at a position, and finishes.
-fn starting_at(list: &Executions, start: usize) -> Option<Execution>
-    ensures { result ≡ find (is_from start) list.now }
+// The execution that starts at a position, by where each ends.
+fn span_at(ends: &[usize], start: usize) -> Span
+    ensures { result ≡ record { start = start; end = get_or ends.now start 0 } }
 {
-    list.iter()
-        .copied()
-        .find(|x| x.first == start && start < x.last)
-}
-
-// The execution of the events that starts at this position, where there is one.
-fn start_of(_events: &Events<'_>, list: &Executions, start: usize) -> Execution
-    requires list { AreExecutions (step_at _events.now) list.now }
-    requires start { (x : Execution) × StartsAt _events.now start x }
-    ensures { StartsAt _events.now start result }
-{
-    let Some(found) = starting_at(list, start) else {
-        unreachable!()
-    };
-    found
+    let end = ends.get(start).copied().unwrap_or(0);
+    Span { start, end }
 }
 
 /// The executions that start at these positions.
@@ -52,38 +34,50 @@ pub(crate) fn starting_at_both(
     events: &Events<'_>,
     first: usize,
     second: usize,
-) -> Result<(Execution, Execution), AllocError>
-    requires first { (x : Execution) × StartsAt events.now first x }
-    requires second { (x : Execution) × StartsAt events.now second x }
+) -> Result<(Span, Span), AllocError>
+    requires first { is_start events.now first ≡ true }
+    requires second { is_start events.now second ≡ true }
     ensures { IfOk result (λ both.
         StartsAt events.now first both.0 × StartsAt events.now second both.1) }
 {
-    let list = executions(alloc, events)?;
-    let starting = start_of(events, &list, first);
-    let later = start_of(events, &list, second);
-    Ok((starting, later))
+    let ends = ends_of(alloc, events)?;
+    Ok((
+        span_at(ends.as_slice(), first),
+        span_at(ends.as_slice(), second),
+    ))
 }
 
-/// Adds the row that two executions overlap, and the rows of their four events.
+// Adds the row of the finish at which an execution ends, where it finishes.
+fn add_finish(rows: &mut Vec<Row>, events: &Events<'_>, end: usize) -> Result<(), AllocError>
+    ensures { OnOk result (rows.new.items
+        ≡ rows.old.items ++ finish_rows events.now.recorded end) }
+{
+    if events.record().len() <= end {
+        return Ok(());
+    }
+    rows.push(Row::Event(end, Note::Nothing))?;
+    Ok(())
+}
+
+/// Adds the row that two executions overlap, and the rows of their starts and finishes.
 ///
 /// # Errors
 /// `AllocError` where a request for memory is refused.
 pub(crate) fn add_overlap(
     rows: &mut Vec<Row>,
-    first: Execution,
-    second: Execution,
+    events: &Events<'_>,
+    first: Span,
+    second: Span,
     overlap: Row,
 ) -> Result<(), AllocError>
-    ensures { OnOk result (rows.new.items ≡ rows.old.items ++ overlap_rows first second overlap) }
+    ensures { OnOk result (rows.new.items
+        ≡ rows.old.items ++ overlap_rows events.now.recorded first second overlap) }
 {
-    let sooner = first.last.min(second.last);
-    let later = first.last.max(second.last);
     rows.push(overlap)?;
-    rows.push(Row::Event(first.first, Note::Nothing))?;
-    rows.push(Row::Event(second.first, Note::Nothing))?;
-    rows.push(Row::Event(sooner, Note::Nothing))?;
-    rows.push(Row::Event(later, Note::Nothing))?;
-    Ok(())
+    rows.push(Row::Event(first.start, Note::Nothing))?;
+    rows.push(Row::Event(second.start, Note::Nothing))?;
+    add_finish(rows, events, first.end.min(second.end))?;
+    add_finish(rows, events, first.end.max(second.end))
 }
 
 // Whether a condition of readers stands: any but `any()`, which holds of no event.
@@ -119,30 +113,20 @@ fn writers_said(
     }
 }
 
-// How many of the executions are a start and a finish, with the start at a position of a set flag.
-fn count_held(list: &Executions, flags: &Flags) -> usize
-    ensures { result ≡ count_by (is_flagged flags.now) list.now }
-{
-    list.iter()
-        .filter(|x| x.ending != Ending::Skipped && flags.is_set(x.first))
-        .count()
-}
-
 // Adds the row of a condition, and of how many executions it holds at the start.
 fn add_held(
     alloc: Global,
     rows: &mut Vec<Row>,
     events: &Events<'_>,
-    list: &Executions,
     number: usize,
     condition: &Condition,
 ) -> Result<(), AllocError>
     ensures { OnOk result (rows.new.items
-        ≡ rows.old.items ++ held_rows events.now list.now number condition.now) }
+        ≡ rows.old.items ++ held_rows events.now number condition.now) }
 {
-    let flags = fitting(alloc, events, condition)?;
+    let held = select(alloc, &events.started(alloc)?, condition)?;
     add_condition(rows, alloc, number, condition)?;
-    rows.push(Row::Executions(count_held(list, &flags)))?;
+    rows.push(Row::Executions(held.count()))?;
     Ok(())
 }
 
@@ -151,16 +135,15 @@ fn add_holders(
     alloc: Global,
     rows: &mut Vec<Row>,
     events: &Events<'_>,
-    list: &Executions,
     writers: &Condition,
     readers: &Condition,
 ) -> Result<(), AllocError>
     ensures { OnOk result (rows.new.items
-        ≡ rows.old.items ++ holder_rows events.now list.now writers.now readers.now) }
+        ≡ rows.old.items ++ holder_rows events.now writers.now readers.now) }
 {
-    add_held(alloc, rows, events, list, 0, writers)?;
+    add_held(alloc, rows, events, 0, writers)?;
     if names_some(readers) {
-        add_held(alloc, rows, events, list, 1, readers)?;
+        add_held(alloc, rows, events, 1, readers)?;
     }
     Ok(())
 }
@@ -183,12 +166,10 @@ fn add_below(
         Exclusive::No(first, second) => {
             let said = writers_said(alloc, events, writers, readers, first, second)?;
             let (one, other) = starting_at_both(alloc, events, first, second)?;
-            add_overlap(rows, one, other, Row::Overlap(one, other, said))
+            let overlap = Row::Overlap(one, other, said);
+            add_overlap(rows, events, one, other, overlap)
         }
-        Exclusive::NoPair => {
-            let list = executions(alloc, events)?;
-            add_holders(alloc, rows, events, &list, writers, readers)
-        }
+        Exclusive::NoPair => add_holders(alloc, rows, events, writers, readers),
     }
 }
 
@@ -216,9 +197,10 @@ fn explain(
 }
 
 /// Writes whether executions that conflict kept away from each other, as [`exclusive`] answers it.
-/// Below a no stand the two executions that overlap, which of them are writers', and their four
-/// events. Where no two conflict, it stands below of how many executions each condition holds at the
-/// start. Of readers nothing is said where their condition is `any()`, which holds of no event.
+/// Below a no stand the two executions that overlap, which of them are writers', and their starts
+/// and finishes. Where no two conflict, it stands below of how many executions each condition holds
+/// at the start. Of readers nothing is said where their condition is `any()`, which holds of no
+/// event.
 ///
 /// # Errors
 /// `Memory` where a request for memory is refused, and `Device` where the target broke.

@@ -8,15 +8,14 @@ ghost use Rattle.tk_streams.specs.Stream.{AppendsPrefix};
 ghost use Rattle.tk_record.specs.Record.{entry_of_view};
 ghost use Rattle.tk_explanations.specs.steps.{IsWritten};
 ghost use Rattle.tk_explanations.specs.declared.rows.Row.TheVariants.{Line};
-ghost use Rattle.tk_explanations.specs.Rows.{event_row, note_text, row_line, row_text, rows_text, span_text, writers_text};
+ghost use Rattle.tk_explanations.specs.Rows.{descriptor_of, end_text, event_row, note_text, row_line, row_text, rows_text, span_text, writers_text};
 
 use crate::faults::ExplainFault;
 use crate::pieces::{put_descriptor_of, put_event_text, put_number};
-use crate::rows::{Note, Row, Writers};
+use crate::rows::{Note, Row, Span, Writers};
 use crate::sentence_texts::put_sentence;
 use std::alloc::{AllocError, Global};
 use tk_ids::Text;
-use tk_query::Execution;
 use tk_record::{EntryView, Record};
 use tk_record_text::put_text;
 use tk_streams::{Broken, Piece, Target};
@@ -101,16 +100,38 @@ fn put_more<T: Target>(piece: &mut Piece, target: &mut T, count: usize)
     piece.put(target, b" more");
 }
 
-// Adds the descriptor of an execution, and its first and its last position.
-fn put_span<T: Target>(piece: &mut Piece, target: &mut T, record: &Record, execution: Execution)
+// Adds the descriptor of the event at a position, where the record has one there.
+fn put_descriptor_at<T: Target>(piece: &mut Piece, target: &mut T, record: &Record, position: usize)
     ensures { AddsTo T.contents T.broken target.old target.new piece.old piece.new
-        (span_text «record».now execution) }
+        (descriptor_of «record».now (slice_get «record».now.entries position)) }
 {
-    put_descriptor_of(piece, target, record, execution.key);
+    if let Some(view) = record.entry(position) {
+        put_descriptor_of(piece, target, record, view.key);
+    }
+}
+
+// Adds the position at which an execution ends, or that it lasts to the end of the record.
+fn put_end<T: Target>(piece: &mut Piece, target: &mut T, record: &Record, end: usize)
+    ensures { AddsTo T.contents T.broken target.old target.new piece.old piece.new
+        (end_text «record».now end) }
+{
+    if end < record.len() {
+        put_number(piece, target, end as u64);
+    } else {
+        piece.put(target, b"the end");
+    }
+}
+
+// Adds the descriptor of an execution, the position of its start, and where it ends.
+fn put_span<T: Target>(piece: &mut Piece, target: &mut T, record: &Record, span: Span)
+    ensures { AddsTo T.contents T.broken target.old target.new piece.old piece.new
+        (span_text «record».now span) }
+{
+    put_descriptor_at(piece, target, record, span.start);
     piece.put(target, b" (");
-    put_number(piece, target, execution.first as u64);
+    put_number(piece, target, span.start as u64);
     piece.put(target, b" to ");
-    put_number(piece, target, execution.last as u64);
+    put_end(piece, target, record, span.end);
     piece.put(target, b")");
 }
 
@@ -130,8 +151,8 @@ fn put_overlap<T: Target>(
     piece: &mut Piece,
     target: &mut T,
     record: &Record,
-    first: Execution,
-    second: Execution,
+    first: Span,
+    second: Span,
     said: Writers,
 )
     ensures { AddsTo T.contents T.broken target.old target.new piece.old piece.new
@@ -148,8 +169,8 @@ fn put_overlap_over<T: Target>(
     piece: &mut Piece,
     target: &mut T,
     record: &Record,
-    first: Execution,
-    second: Execution,
+    first: Span,
+    second: Span,
     name: &Text,
 )
     ensures { AddsTo T.contents T.broken target.old target.new piece.old piece.new

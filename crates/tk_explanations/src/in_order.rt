@@ -91,7 +91,7 @@ fn add_stuck(
     let condition = &conditions[number];
     let found = positions_in_turn(alloc, events, &conditions[..number])?;
     let last_found = found.as_slice().last().copied();
-    let near = nearest(alloc, events, after(events, last_found), condition)?;
+    let near = nearest(events, after(events, last_found), condition);
     add_found(rows, alloc, conditions, found.as_slice())?;
     add_condition(rows, alloc, number, condition)?;
     add_early(rows, last_found, last_fit(events, condition))?;

@@ -1,9 +1,9 @@
 //! Why executions that conflict over a lock did not keep away from each other.
-ghost use Rattle.std.specs.Prelude.{◌≡◌, ◌++◌, ◌∷◌, [], true, count_by, IfOk, OnOk, IsErrOf};
+ghost use Rattle.std.specs.Prelude.{◌≡◌, ◌++◌, ◌∷◌, [], true, count_by, slice_get, IfOk, OnOk, IsErrOf};
 ghost use Rattle.tk_query_locks.specs.LockAnswers.{IsLockAnswer};
 ghost use Rattle.tk_record.specs.Entries.{desc};
 ghost use Rattle.tk_explanations.specs.Explained.{IsExplained};
-ghost use Rattle.tk_explanations.specs.LockCollisions.{AreLockRows, ExplainsLocks, IsLockExplanation, has_lock, holding_row, holds_lock};
+ghost use Rattle.tk_explanations.specs.LockCollisions.{AreLockRows, ExplainsLocks, IsLockExplanation, has_lock, holding_count, holding_row, holds_lock};
 ghost use Rattle.tk_explanations.specs.steps.{AddsRows};
 
 use crate::collisions::{add_overlap, starting_at_both};
@@ -12,7 +12,6 @@ use crate::faults::ExplainFault;
 use crate::rows::Row;
 use std::alloc::{AllocError, Global};
 use tk_ids::Text;
-use tk_query::{Ending, Executions, executions};
 use tk_query_locks::{LockAnswer, locks};
 use tk_record::{Events, Record};
 use tk_streams::Target;
@@ -27,26 +26,40 @@ fn has_lock(record: &Record, key: u32) -> bool
     }
 }
 
-// How many of the executions are a start and a finish, and hold a lock.
-fn count_holding(record: &Record, list: &Executions) -> usize
-    ensures { result ≡ count_by (holds_lock «record».now) list.now }
+// Whether the event at a position is of a key that holds a lock.
+fn holds_lock(record: &Record, position: usize) -> bool
+    ensures { result ≡ holds_lock «record».now (slice_get «record».now.entries position) }
 {
-    list.iter()
-        .filter(|x| x.ending != Ending::Skipped && has_lock(record, x.key))
+    match record.entry(position) {
+        Some(view) => has_lock(record, view.key),
+        None => false,
+    }
+}
+
+// How many of the events at these positions are of a key that holds a lock.
+fn count_holding(record: &Record, starts: &[usize]) -> usize
+    ensures { result ≡ count_by (λ p. holds_lock «record».now
+        (slice_get «record».now.entries p)) starts.now }
+{
+    starts
+        .iter()
+        .filter(|start| holds_lock(record, **start))
         .count()
 }
 
-// Adds how many of the executions hold a lock.
-fn add_holding(
-    alloc: Global,
-    rows: &mut Vec<Row>,
-    record: &Record,
-    list: &Executions,
-) -> Result<(), AllocError>
-    ensures { OnOk result (rows.new.items
-        ≡ rows.old.items ++ holding_row «record».now list.now ∷ []) }
+// How many of the executions hold a lock.
+fn count_executions(alloc: Global, events: &Events<'_>) -> Result<usize, AllocError>
+    ensures { IfOk result (λ number. number ≡ holding_count events.now) }
 {
-    let number = count_holding(record, list);
+    let starts = events.started(alloc)?.positions(alloc)?;
+    Ok(count_holding(events.record(), starts.as_slice()))
+}
+
+// Adds how many of the executions hold a lock.
+fn add_holding(alloc: Global, rows: &mut Vec<Row>, events: &Events<'_>) -> Result<(), AllocError>
+    ensures { OnOk result (rows.new.items ≡ rows.old.items ++ holding_row events.now ∷ []) }
+{
+    let number = count_executions(alloc, events)?;
     let text = format!(in alloc; "{number} executions hold a lock")?;
     rows.push(Row::Line(Text::from(text)))?;
     Ok(())
@@ -67,18 +80,10 @@ fn add_below(
         LockAnswer::Yes => Ok(()),
         LockAnswer::No(first, second, name) => {
             let (one, other) = starting_at_both(alloc, events, *first, *second)?;
-            add_overlap(
-                rows,
-                one,
-                other,
-                Row::OverlapOver(one, other, name.try_clone()?),
-            )
+            let overlap = Row::OverlapOver(one, other, name.try_clone()?);
+            add_overlap(rows, events, one, other, overlap)
         }
-        LockAnswer::NoPair => {
-            let list = executions(alloc, events)?;
-            add_holding(alloc, rows, events.record(), &list)?;
-            Ok(())
-        }
+        LockAnswer::NoPair => add_holding(alloc, rows, events),
     }
 }
 
@@ -94,8 +99,8 @@ fn explain(alloc: Global, events: &Events<'_>) -> Result<Explanation, AllocError
 }
 
 /// Writes whether executions that conflict over a lock kept away from each other, as [`locks`]
-/// answers it. Below a no stand the two executions that overlap, the lock, and their four events.
-/// Where no two conflict, it stands below how many executions hold a lock.
+/// answers it. Below a no stand the two executions that overlap, the lock, and their starts and
+/// finishes. Where no two conflict, it stands below how many executions hold a lock.
 ///
 /// # Errors
 /// `Memory` where a request for memory is refused, and `Device` where the target broke.

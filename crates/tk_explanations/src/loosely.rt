@@ -78,7 +78,7 @@ fn add_missing(
 {
     let condition = &conditions[number];
     add_condition(rows, alloc, number, condition)?;
-    let near = nearest(alloc, events, 0, condition)?;
+    let near = nearest(events, 0, condition);
     add_nearest(rows, alloc, events.record(), condition, &near)
 }
 

@@ -2,7 +2,6 @@
 
 use crate::sentences::Sentence;
 use tk_ids::Text;
-use tk_query::Execution;
 
 /// What is said of an event after its row.
 #[derive(Debug, Drop)]
@@ -13,6 +12,14 @@ pub(crate) enum Note {
     Lacks(Text),
     /// The condition holds of it, but it doesn't stand after the event at this position.
     NotAfter(usize),
+}
+
+/// An execution by the position of its start, and where it ends: at the position of its finish or,
+/// where it never finishes, at the number of entries of the record.
+#[derive(Clone, Copy, Debug)]
+pub(crate) struct Span {
+    pub(crate) start: usize,
+    pub(crate) end: usize,
 }
 
 /// What is said of which of two executions are writers'.
@@ -42,9 +49,9 @@ pub(crate) enum Row {
     /// How many conditions there are, and how many events.
     Counts(usize, usize),
     /// These executions overlap.
-    Overlap(Execution, Execution, Writers),
+    Overlap(Span, Span, Writers),
     /// These executions overlap, and conflict over the lock of this name.
-    OverlapOver(Execution, Execution, Text),
+    OverlapOver(Span, Span, Text),
     /// How many executions there are.
     Executions(usize),
     /// How many events more there are.

@@ -1,10 +1,10 @@
 -- Each step of a book keeps its rule.
-use Rattle.std.proofs.Common.{◌≡◌, ℕ, eqb, ◌+◌, ◌-◌, ◌*◌, ◌%◌, ◌^◌, ◌<◌, ◌≤◌, inl, inr, Option, Some, None, List, [], ◌∷◌, ◌++◌, length, get_or, set, replicate, sum_by, take, refl, sym, ap, ◌∙◌, zero-add, length-append, arith, subst}
+use Rattle.std.proofs.Common.{◌≡◌, ℕ, eqb, ◌+◌, ◌-◌, ◌*◌, ◌%◌, ◌^◌, ◌<◌, ◌≤◌, inl, inr, Option, Some, None, List, [], ◌∷◌, ◌++◌, length, get_or, set, replicate, sum_by, refl, sym, ap, ◌∙◌, zero-add, length-append, arith, subst}
 use mathlib.Core.Option as maybe
 use mathlib.Core.Option.{some-injective}
 use lib.ListN.{get_elem?}
 use prog.Atomic.{either}
-use Rattle.std.proofs.lemmas.List.Sums.{sum_by-append}
+use Rattle.std.proofs.lemmas.List.Sums.{sum_by-append, sum_by-cons}
 use Rattle.std.proofs.lemmas.List.Folds.{sum_by-replicate}
 use Rattle.std.proofs.lemmas.List.Concat.{flat_map-append}
 use Rattle.std.proofs.lemmas.List.{length-replicate, append-nil}
@@ -17,7 +17,7 @@ use Rattle.tk_locks.specs.Holdings.{AreCompatible, WereHeld, held_lane, held_wor
 use Rattle.tk_locks.specs.declared.rules.SeatNote.{SeatNote}
 use Rattle.tk_locks.specs.LockWord.{seat_note, holdings, HoldingsFitWord, WordWasLoaded, WasExchanged, WasReleased}
 use Rattle.tk_locks.proofs.LaneConflicts.{lanes_agree, sum_lane, word_lt, word_lane}
-use Rattle.tk_locks.proofs.ListSums.{set_there, flat_get, flat_turn, flat_same, flat_part, length_turn, flat_lone}
+use Rattle.tk_locks.proofs.ListSums.{set_there, flat_turn, flat_same, flat_part, length_turn, flat_lone}
 
 abbrev lane_sum : List SeatNote → ℕ → ℕ
 lane_sum views r = sum_by (λ h. held_lane h r) (holdings views)
@@ -47,24 +47,28 @@ read_more : (seats id : ℕ) (me : Me NeedView SeatNote) (s : State NeedView Sea
 read_more seats id me s seen kept at = let w = seat_note me.0.seats me.0.held seen in
     turned seats id me w s (get_or s.words 0 0) kept at refl (ap (λ (l : List ℕ). get_or l 0 0) kept.word ∙ sym (flat_same held_word held_of s.views id me.0 w at refl)) (same_lanes seats id me.0 w s kept at refl)
 
--- what the seats hold, where no lane is above 15 and the word is its sum
-held_in : (views : List SeatNote) (id : ℕ) (v : SeatNote) (own : Option NeedView) (word : ℕ)
-    → get_elem? views id ≡ maybe.some v → v.held ≡ own ∷ []
-    → ((r : ℕ) → r < 16 → lane_sum views r ≤ 15) → word ≡ word_sum views → WereHeld own word
-held_in views id v own word at one lanes sum = record {
-  held = holdings views;
-  seat = length (holdings (take id views));
-  among = flat_get held_of views id v own at one;
-  compatible = lanes_agree (holdings views) lanes;
-  sum = sum;
-}
-
 sum_single : (f : Option NeedView → ℕ) (h : Option NeedView) (held : List (Option NeedView)) → held ≡ h ∷ [] → sum_by f held ≡ f h
 sum_single f h held one = ap (sum_by f) one ∙ zero-add (f h)
 
+-- what the seats hold, where no lane is above 15 and the word is its sum
+held_in : (seats : ℕ) (views : List SeatNote) (id : ℕ) (v : SeatNote) (own : Option NeedView) (word : ℕ)
+    → get_elem? views id ≡ maybe.some v → v.held ≡ own ∷ [] → length (holdings views) ≡ seats
+    → ((r : ℕ) → r < 16 → lane_sum views r ≤ 15) → word ≡ word_sum views → WereHeld seats own word
+held_in seats views id v own word at one count lanes sum =
+    let spent = seat_note 0 [] [] in
+    let others : List (Option NeedView) = holdings (set views id spent) in
+    let same : (f : Option NeedView → ℕ) → sum_by f (own ∷ others) ≡ sum_by f (holdings views) = λ f. (
+    let t = flat_turn f held_of views id v spent at in let o = sum_single f own v.held one in
+    let c = sum_by-cons f own others in omega arith) in record {
+      others = others;
+      count = (let t = length_turn held_of views id v spent at in let o = ap (λ (l : List (Option NeedView)). length l) one in omega arith);
+      compatible = lanes_agree (own ∷ others) (λ r lt. (let e = same (λ h. held_lane h r) in let b = lanes r lt in omega arith));
+      sum = sum ∙ sym (same held_word);
+    }
+
 module _ (seats slots id : ℕ) (me : Me NeedView SeatNote) where
-  pub looks : Allows (HoldingsFitWord seats) slots id me 0 (λ n. n) (WordWasLoaded (step slots 0 0 0 maybe.none) me)
-  looks s kept _ at _ = let x : ℕ = get_or s.words 0 0 in (
+  pub looks : me.0.seats ≡ seats → Allows (HoldingsFitWord seats) slots id me 0 (λ n. n) (WordWasLoaded (step slots 0 0 0 maybe.none) me)
+  looks known s kept _ at _ = let x : ℕ = get_or s.words 0 0 in (
     seat_note me.0.seats me.0.held (me.0.seen ++ x ∷ []),
     keeps,
     tt,
@@ -72,14 +76,14 @@ module _ (seats slots id : ℕ) (me : Me NeedView SeatNote) where
     (
       refl,
       (λ r lt. let e = sum_lane (holdings s.views) kept.lanes r lt in let p = flat_part (λ h. held_lane h r) held_of s.views id me.0 at in let q = ap (λ (l : List ℕ). lane_at (get_or l 0 0) r) kept.word in omega arith),
-      λ own one. held_in s.views id me.0 own x at one kept.lanes
+      λ own one. held_in me.0.seats s.views id me.0 own x at one (kept.count ∙ sym known) kept.lanes
           (ap (λ (l : List ℕ). get_or l 0 0) kept.word),
     ),
   )
 
-  pub takes : (n : NeedView) (old word : ℕ) → word ≡ word_of n → me.0.held ≡ None ∷ [] → Admits old word
+  pub takes : me.0.seats ≡ seats → (n : NeedView) (old word : ℕ) → word ≡ word_of n → me.0.held ≡ None ∷ [] → Admits old word
       → Allows (HoldingsFitWord seats) slots id me 0 (λ x. either (eqb x old) (old + word) x) (WasExchanged (step slots 0 old (old + word) (maybe.some n)) me)
-  takes n old word is empty room s kept _ at _ = let x : ℕ = get_or s.words 0 0 in let then = WasExchanged (step slots 0 old (old + word) (maybe.some n)) me in
+  takes known n old word is empty room s kept _ at _ = let x : ℕ = get_or s.words 0 0 in let then = WasExchanged (step slots 0 old (old + word) (maybe.some n)) me in
       exchanged x old (old + word) (λ m. (w : SeatNote) × (a : Act NeedView) × Valid s.homes me.1 a × HoldingsFitWord seats (stepped s 0 m id me.1 w a) × then x (w, carried_after me.1 a))
       (λ hit. let w = seat_note me.0.seats (Some n ∷ []) me.0.seen in
       let views : List SeatNote = set s.views id w in
@@ -96,7 +100,11 @@ module _ (seats slots id : ℕ) (me : Me NeedView SeatNote) where
       let l : lane_at word r ≡ lane n r = ap (λ (m : ℕ). lane_at m r) is ∙ word_lane n r lt in
       let k = sum_lane (holdings s.views) kept.lanes r lt in
       let p : lane_at old r ≡ lane_at (word_sum s.views) r = ap (λ (m : ℕ). lane_at m r) q in
-      omega arith) in (
+      omega arith) in
+      let count : length (holdings views) ≡ me.0.seats = (
+      let t = length_turn held_of s.views id me.0 w at in
+      let e = ap (λ (l : List (Option NeedView)). length l) empty in
+      let k = kept.count in omega arith) in (
         w,
         keeps,
         tt,
@@ -107,9 +115,9 @@ module _ (seats slots id : ℕ) (me : Me NeedView SeatNote) where
           record {
             after = refl;
             together = λ m said none.
-                subst (λ (k : NeedView). WereHeld (Some k) (old + word)) (some-injective n m said)
-                (held_in views id w (Some n) (old + word)
-                (set_there s.views id me.0 w at) refl lanes sum);
+                subst (λ (k : NeedView). WereHeld me.0.seats (Some k) (old + word)) (some-injective n m said)
+                (held_in me.0.seats views id w (Some n) (old + word)
+                (set_there s.views id me.0 w at) refl count lanes sum);
           },
         ),
       ))

@@ -2,7 +2,7 @@
 use Rattle.std.proofs.Common.{◌≡◌, ℕ, zero, suc, ◌+◌, ◌^◌, ◌<◌, ◌≤◌, ◌↔◌, Option, Some, None, List, [], ◌∷◌, length, get_or, All, sum_by, is_some, count_by, cond, set, length-set, get_or-set_same, get_or-set_other, refl, sym, subst, ap, ◌∙◌, arith}
 use mathlib.Core.Logic.{dite}
 use native.Mathlib.Decide.{ℕ_discrete}
-use Rattle.std.proofs.lemmas.List.Sums.{sum_by-cons}
+use Rattle.std.proofs.lemmas.List.Sums.{sum_by-cons, get_or-le-sum_by}
 use Rattle.tk_locks.specs.NeedView.{NeedView}
 use Rattle.tk_lanes.specs.Lanes.{lane_at, Admits}
 use Rattle.tk_locks.specs.Words.{packed}
@@ -39,15 +39,10 @@ agree (Some n) (Some m) h = λ c. let k = clash_heavy (access n c.0) (access m c
 agree None b h = tt
 agree (Some n) None h = tt
 
-sum_one : {A : Type 0} (f : A → ℕ) (l : List A) (i : ℕ) (d : A) → i < length l → f (get_or l i d) ≤ sum_by f l
-sum_one f [] i d lt = absurd (omega arith)
-sum_one f (x ∷ xs) zero d lt = omega (arith, sum_by-cons f x xs)
-sum_one f (x ∷ xs) (suc i) d lt = omega (arith, sum_by-cons f x xs, sum_one f xs i d (omega arith))
-
 sum_two : {A : Type 0} (f : A → ℕ) (l : List A) (i j : ℕ) (d : A) → i < j → j < length l → f (get_or l i d) + f (get_or l j d) ≤ sum_by f l
 sum_two f [] i j d lt within = absurd (omega arith)
 sum_two f (x ∷ xs) i zero d lt within = absurd (omega arith)
-sum_two f (x ∷ xs) zero (suc j) d lt within = omega (arith, sum_by-cons f x xs, sum_one f xs j d (omega arith))
+sum_two f (x ∷ xs) zero (suc j) d lt within = omega (arith, sum_by-cons f x xs, get_or-le-sum_by f xs j d (omega arith))
 sum_two f (x ∷ xs) (suc i) (suc j) d lt within = omega (arith, sum_by-cons f x xs, sum_two f xs i j d (omega arith) (omega arith))
 
 -- where no lane is above 15, no two seats' needs conflict
@@ -91,22 +86,22 @@ clash_or_light nothing reads n = ((λ (e : nothing ≡ writes). cc), omega arith
 clash_or_light nothing writes n = ((λ (e : nothing ≡ writes). cc), omega arith, λ (e : nothing ≡ reads). cc)
 
 -- beside a writer all others weigh nothing, and beside a reader each at most one
-beside_writer : (n : NeedView) (r : ℕ) → r < 16 → access n r ≡ writes → (held : List (Option NeedView)) → All (IsCompatible (Some n)) held → sum_by (λ h. held_lane h r) held ≡ 0
+pub beside_writer : (n : NeedView) (r : ℕ) → r < 16 → access n r ≡ writes → (held : List (Option NeedView)) → All (IsCompatible (Some n)) held → sum_by (λ h. held_lane h r) held ≡ 0
 beside_writer n r lt is [] fits = refl
 beside_writer n r lt is (None ∷ hs) fits = omega (arith, sum_by-cons (λ h. held_lane h r) None hs, beside_writer n r lt is hs (All-tail (IsCompatible (Some n)) None hs fits))
 beside_writer n r lt is (Some m ∷ hs) fits = let light = (clash_or_light (access n r) (access m r) (λ c. All-head (IsCompatible (Some n)) (Some m) hs fits (r, lt, c))).0 is in
     omega (arith, sum_by-cons (λ h. held_lane h r) (Some m) hs, beside_writer n r lt is hs (All-tail (IsCompatible (Some n)) (Some m) hs fits))
 
-beside_reader : (n : NeedView) (r : ℕ) → r < 16 → access n r ≡ reads → (held : List (Option NeedView)) → All (IsCompatible (Some n)) held → sum_by (λ h. held_lane h r) held ≤ count_by is_some held
+pub beside_reader : (n : NeedView) (r : ℕ) → r < 16 → access n r ≡ reads → (held : List (Option NeedView)) → All (IsCompatible (Some n)) held → sum_by (λ h. held_lane h r) held ≤ count_by is_some held
 beside_reader n r lt is [] fits = omega arith
 beside_reader n r lt is (None ∷ hs) fits = omega (arith, sum_by-cons (λ h. held_lane h r) None hs, sum_by-cons (λ (h : Option NeedView). cond (is_some h) 1 0) None hs, beside_reader n r lt is hs (All-tail (IsCompatible (Some n)) None hs fits))
 beside_reader n r lt is (Some m ∷ hs) fits = let light = (clash_or_light (access n r) (access m r) (λ c. All-head (IsCompatible (Some n)) (Some m) hs fits (r, lt, c))).2 is in
     omega (arith, sum_by-cons (λ h. held_lane h r) (Some m) hs, sum_by-cons (λ h. cond (is_some h) 1 0) (Some m) hs, beside_reader n r lt is hs (All-tail (IsCompatible (Some n)) (Some m) hs fits))
 
-AreCompatible-tail : (h : Option NeedView) (hs : List (Option NeedView)) → AreCompatible (h ∷ hs) → AreCompatible hs
+pub AreCompatible-tail : (h : Option NeedView) (hs : List (Option NeedView)) → AreCompatible (h ∷ hs) → AreCompatible hs
 AreCompatible-tail h hs compatible i j d lt within = compatible (suc i) (suc j) d (omega arith) (omega arith)
 
-AreCompatible-head : (h : Option NeedView) (hs : List (Option NeedView)) → AreCompatible (h ∷ hs) → All (IsCompatible h) hs
+pub AreCompatible-head : (h : Option NeedView) (hs : List (Option NeedView)) → AreCompatible (h ∷ hs) → All (IsCompatible h) hs
 AreCompatible-head h hs compatible j d within = compatible 0 (suc j) d (omega arith) (omega arith)
 
 -- where at most fifteen seats hold needs that do not conflict, each lane has room for all of them
@@ -150,7 +145,7 @@ admits_exactly held n compatible few = (to, from)
     here r lt = sum_lane held (λ i l. compatible_lanes held compatible (omega arith) i l) r lt
 
     to : Admits (sum_by held_word held) (word_of n) → All (IsCompatible (Some n)) held
-    to room k d within = agree (Some n) (get_or held k d) (λ r lt. let a = room r lt in let h = here r lt in let w = word_lane n r lt in let o = sum_one (λ h. held_lane h r) held k d within in omega arith)
+    to room k d within = agree (Some n) (get_or held k d) (λ r lt. let a = room r lt in let h = here r lt in let w = word_lane n r lt in let o = get_or-le-sum_by (λ h. held_lane h r) held k d within in omega arith)
 
     from : All (IsCompatible (Some n)) held → Admits (sum_by held_word held) (word_of n)
     from fits r lt = let h = here r lt in let w = word_lane n r lt in let f = sum_by-cons (λ h. cond (is_some h) 1 0) (Some n) held in let s = sum_by-cons (λ h. held_lane h r) (Some n) held in

@@ -9,3 +9,4 @@ pub mod GatheredSeats
 pub mod HoldingSteps
 pub mod LoneWriters
 pub mod SeatSplits
+pub mod HeldWords

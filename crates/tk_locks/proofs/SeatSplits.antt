@@ -7,6 +7,7 @@ use Rattle.std.specs.List.Sorted.{IsPermutation}
 use mathlib.Core.Option.{some, some-injective, some-ne-none}
 use lib.ListN.{get_elem?}
 use Rattle.atomic_table.proofs.Lists.{set_else}
+use Rattle.tk_locks.proofs.ListSums.{set_there}
 use Rattle.tk_locks.specs.NeedView.{NeedView}
 use Rattle.tk_locks.specs.declared.rules.SeatNote.{SeatNote}
 use Rattle.tk_locks.specs.LockWord.{seat_note, holdings}
@@ -20,11 +21,6 @@ module _ {A : Type 0} where
   set_turned (x ∷ xs) zero (suc j) a b ne = refl
   set_turned (x ∷ xs) (suc i) zero a b ne = refl
   set_turned (x ∷ xs) (suc i) (suc j) a b ne = ap (λ (l : List A). x ∷ l) (set_turned xs i j a b (λ e. ne (ap suc e)))
-
-  set_there : (l : List A) (i : ℕ) (v w : A) → get_elem? l i ≡ some v → get_elem? (set l i w) i ≡ some w
-  set_there [] i v w at = absurd (some-ne-none v (sym at))
-  set_there (x ∷ xs) zero v w at = refl
-  set_there (x ∷ xs) (suc i) v w at = set_there xs i v w at
 
   swapped : (a b c : List A) → IsPermutation (a ++ (b ++ c)) (b ++ (a ++ c))
   swapped a b c = subst (λ (l : List A). IsPermutation l (b ++ (a ++ c))) (append_assoc a b c)

@@ -1,6 +1,6 @@
 -- What several seats may hold at once, and the two steps that change it.
-use Rattle.std.specs.Prelude.{◌≡◌, ◌≢◌, ℕ, ◌<◌, List, Option, Some, None, All, slice_get, slice_set}
-use Rattle.std.specs.Prelude.{sum_by}
+use Rattle.std.specs.Prelude.{◌≡◌, ◌≢◌, ℕ, ◌+◌, ◌<◌, List, ◌∷◌, Option, Some, None, All, length}
+use Rattle.std.specs.Prelude.{slice_get, slice_set, sum_by}
 use Rattle.std.specs.List.{AllPairs}
 use Rattle.tk_locks.specs.NeedView.{NeedView}
 use Rattle.tk_locks.specs.Needs.{Access, nothing, writes, access, Conflict, lane, word_of}
@@ -56,11 +56,10 @@ abbrev pub held_word : Option NeedView → ℕ
 held_word None = 0
 held_word (Some n) = word_of n
 
--- What the seats of a book held at one moment: one of them held `own`, no two of their needs
--- conflicted, and the word was the sum of their words.
-pub record WereHeld (own : Option NeedView) (word : ℕ) : Type 0 where
-  pub held : List (Option NeedView)
-  pub seat : ℕ
-  pub among : slice_get held seat ≡ Some own
-  pub compatible : AreCompatible held
-  pub sum : word ≡ sum_by held_word held
+-- What the seats of a book with so many held at one moment: one of them `own`, and the others
+-- these. No two of their needs conflicted, and the word was the sum of their words.
+pub record WereHeld (seats : ℕ) (own : Option NeedView) (word : ℕ) : Type 0 where
+  pub others : List (Option NeedView)
+  pub count : length others + 1 ≡ seats
+  pub compatible : AreCompatible (own ∷ others)
+  pub sum : word ≡ sum_by held_word (own ∷ others)

@@ -29,7 +29,7 @@ abbrev pub WordWasLoaded : Step NeedView → Me NeedView SeatNote → ℕ → Me
 WordWasLoaded st old x new =
     (new ≡ (seat_note old.0.seats old.0.held (old.0.seen ++ x ∷ []), old.1))
     × ((r : ℕ) → r < 16 → sum_by (λ h. held_lane h r) old.0.held ≤ lane_at x r)
-    × ((own : Option NeedView) → old.0.held ≡ own ∷ [] → WereHeld own x)
+    × ((own : Option NeedView) → old.0.held ≡ own ∷ [] → WereHeld old.0.seats own x)
 
 -- the need that a step was given, if it was given one
 abbrev pub need_of_operand : maybe.Option NeedView → Option NeedView
@@ -41,7 +41,7 @@ need_of_operand (maybe.some n) = Some n
 pub record HasTaken (st : Step NeedView) (old new : Me NeedView SeatNote) : Type 0 where
   pub after : new ≡ (seat_note old.0.seats (need_of_operand st.said ∷ []) old.0.seen, old.1)
   pub together : (n : NeedView) → st.said ≡ maybe.some n → old.0.held ≡ None ∷ []
-      → WereHeld (Some n) st.second
+      → WereHeld old.0.seats (Some n) st.second
 
 -- the word was the expected one, and the seat holds the need that it was given; or another word was
 -- found, which the seat read

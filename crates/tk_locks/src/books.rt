@@ -165,8 +165,8 @@ impl Book {
     /// Takes the need, where the word that is read admits it and the exchange finds the same word.
     ///
     /// `seat` must be a seat of this book that holds nothing. It takes one load and at most one
-    /// exchange. The word that it writes is that of what all seats hold then,
-    /// of which no two needs conflict (`together`).
+    /// exchange. The word that it writes is that of what all seats hold then, and `need` conflicts
+    /// with no other seat's (`together`).
     ///
     /// # Errors
     /// `Held` or `Moved`, with the words that were read. The seat then holds nothing.
@@ -176,7 +176,7 @@ impl Book {
         ensures book { seat.new.book ≡ seat.old.book }
         ensures held { IfOk result (λ _. seat.new.holds ≡ Some need) }
         ensures free { IfOk result (λ _. WasFree seat.old.read seat.new.read (word_of need)) }
-        ensures together { IfOk result (λ _. TookLast seat.new.read need) }
+        ensures together { IfOk result (λ _. TookLast self.now.seats seat.new.read need) }
         ensures empty { IfErr result (λ _. seat.new.holds ≡ None) }
         ensures busy { IfErr result (WasBusy seat.old.read seat.new.read (word_of need)) }
     {
@@ -207,7 +207,7 @@ impl Book {
         ensures book { seat.new.book ≡ seat.old.book }
         ensures held { seat.new.holds ≡ Some need }
         ensures free { WasFreeAtLast seat.old.read seat.new.read (word_of need) }
-        ensures together { TookLast seat.new.read need }
+        ensures together { TookLast self.now.seats seat.new.read need }
     {
         let mut delay = RetryDelay::new();
         for _ in rt.forever() {
@@ -244,7 +244,7 @@ impl Book {
         ensures holds { seat.new.holds ≡ seat.old.holds }
         ensures read { seat.new.read ≡ seat.old.read ++ result ∷ [] }
         ensures own { (r : ℕ) → r < 16 → held_lane seat.old.holds r ≤ lane_at result r }
-        ensures together { WereHeld seat.old.holds result }
+        ensures together { WereHeld self.now.seats seat.old.holds result }
     {
         self.table.shared.load::<LoadStep>(&mut seat.seat, 0)
     }

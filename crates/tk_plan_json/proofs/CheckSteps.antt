@@ -15,17 +15,17 @@ use Rattle.tk_plan.specs.Ids.{descriptor, descriptor_in}
 use Rattle.tk_plan.specs.Keys.{note_key, note_locks, lock_keys}
 use Rattle.tk_plan.specs.Planned.{is_lawful_node}
 use Rattle.tk_plan.specs.Trees.{contents}
-use Rattle.tk_plan_json_members.specs.Answers.{Refuses}
+use Rattle.tk_plan_json.specs.Answers.{Refuses}
 use Rattle.tk_plan_json.specs.steps.Fields.{Faults, Meets}
-use Rattle.tk_plan_json_members.specs.Checks.{first}
+use Rattle.tk_plan_json.specs.Checks.{first}
 use Rattle.tk_plan_json.specs.Progress.{IsNoted}
 use Rattle.tk_plan_json.specs.steps.Progress.{Addition, state, addition_of, IsChecked, IsAdded, HasBelow, IsStarted, room_checks}
 use Rattle.tk_plan_json.specs.NodeInputs.{NodeInput, segment_of, repeats_key}
 use Rattle.tk_plan_json.specs.Verdicts.{checks, node_check, id_fault, same_segment, is_kind}
 use Rattle.tk_plan_json.specs.declared.read_nodes.ReadNodes.{ReadNodes}
 use Rattle.tk_plan_json.specs.declared.read_nodes.Checked.{Checked}
-use Rattle.tk_plan_json_members.specs.declared.faults.PlanFault.{PlanFault}
-use Rattle.tk_plan_json_members.specs.declared.faults.PlanFault.TheVariants.{Json, Field, Id, Table, TooManyResources, EntryKeyTwice, TooManyEvents, Deep, Memory}
+use Rattle.tk_plan_json.specs.declared.faults.PlanFault.{PlanFault}
+use Rattle.tk_plan_json.specs.declared.faults.PlanFault.TheVariants.{Json, Field, Id, Table, TooManyResources, EntryKeyTwice, TooManyEvents, Deep, Memory}
 
 pub faults_also : (v w : Option PlanFault) (e : PlanFault) → ((f : PlanFault) → v ≡ Some f → w ≡ Some f) → Faults v e → Faults w e
 faults_also v w Json f r = f Json r

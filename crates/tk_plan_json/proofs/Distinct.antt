@@ -11,15 +11,15 @@ use Rattle.tk_ids.specs.declared.tables.TableFault.TheVariants.{Twice, Full}
 use Rattle.tk_plan.specs.declared.trees.nodes.Node.{Node}
 use Rattle.tk_plan.specs.Trees.{Tree, tree, Forest, no_trees, more}
 use Rattle.tk_plan.specs.Ids.{ids, ids_below, AreDistinct}
-use Rattle.tk_plan_json_members.specs.Checks.{first}
+use Rattle.tk_plan_json.specs.Checks.{first}
 use Rattle.tk_plan_json.specs.NodeInputs.{NodeInput, NodeArray, repeats_key, segment_in, segment_of, node_of, below, node_inputs, node_inputs_in, children_in, dynamic_in, children_of, dynamic_of, grown, forest_of}
 use Rattle.tk_plan_json.specs.Verdicts.{checks, verdict, same_segment, node_check, id_fault, is_kind, when}
 use Rattle.tk_ids.specs.declared.tables.TheConstants.{MAX_DESCRIPTORS}
 use Rattle.tk_plan.specs.declared.units.needs.TheConstants.{MAX_KEYS}
 use Rattle.tk_plan_json.specs.declared.limits.TheConstants.{MAX_LEVELS}
 use Rattle.tk_plan.specs.Keys.{lock_keys}
-use Rattle.tk_plan_json_members.specs.declared.faults.PlanFault.{PlanFault}
-use Rattle.tk_plan_json_members.specs.declared.faults.PlanFault.TheVariants.{Field, Id, Table, TooManyResources, EntryKeyTwice, Deep}
+use Rattle.tk_plan_json.specs.declared.faults.PlanFault.{PlanFault}
+use Rattle.tk_plan_json.specs.declared.faults.PlanFault.TheVariants.{Field, Id, Table, TooManyResources, EntryKeyTwice, Deep}
 use Rattle.tk_plan_json.proofs.Verdicts.{verdict-append, verdict-cons}
 
 -- ---- trees whose siblings have different segments

@@ -4,10 +4,10 @@ use Rattle.std.specs.Option.{option_or}
 use Rattle.serde_json.specs.Data.{Data}
 use Rattle.serde_json.specs.Find.{get}
 use Rattle.serde_json.specs.declared.value.Value.{Value}
-use Rattle.tk_plan_json_members.specs.Checks.{Row, first, row, unknown, member_at, member_wrong}
-use Rattle.tk_plan_json_members.specs.Pointers.{pointer, viewed, wrong_at}
-use Rattle.tk_plan_json_members.specs.declared.json_paths.JsonPath.{JsonPath}
-use Rattle.tk_plan_json_members.specs.Rows.{dtype_row, segment_row, name_row, mode_row, isolated_row, locks_row, skip_row, result_row, entries_row, files_row, children_row, dynamic_row, static_rows, dynamic_rows, static_node, dynamic_node}
+use Rattle.tk_plan_json.specs.Checks.{Row, first, row, unknown, member_at, member_wrong}
+use Rattle.tk_plan_json.specs.Pointers.{pointer, viewed, wrong_at}
+use Rattle.tk_plan_json.specs.declared.members.json_paths.JsonPath.{JsonPath}
+use Rattle.tk_plan_json.specs.Rows.{dtype_row, segment_row, name_row, mode_row, isolated_row, locks_row, skip_row, result_row, entries_row, files_row, children_row, dynamic_row, static_rows, dynamic_rows, static_node, dynamic_node}
 use Rattle.tk_plan_json.specs.steps.Fields.{heading_rows, concurrency_rows, content_rows}
 
 -- nothing is wrong with the first of two

@@ -1,3 +1,11 @@
+pub mod Escapes
+pub mod Items
+pub mod TakenMembers
+pub mod UnknownMembers
+pub mod LockItems
+pub mod HandedFaults
+pub mod EntryPairs
+pub mod LawfulFiles
 pub mod Groups
 pub mod SegmentSets
 pub mod Verdicts

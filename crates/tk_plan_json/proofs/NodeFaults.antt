@@ -1,11 +1,11 @@
 -- Faults with the nodes that have them.
 use Rattle.std.proofs.Common.{◌≡◌, ℕ, Option, Some, None, option_map, Result, Ok, Err, refl, ap, ◌∙◌}
-use Rattle.tk_plan_json_members.specs.Refusals.{IsFault}
+use Rattle.tk_plan_json.specs.Refusals.{IsFault}
 use Rattle.tk_plan_json.specs.Verdicts.{FaultsAt, MeetsAt, at_node}
 use Rattle.tk_plan_json.specs.steps.Fields.{Faults, as_node_fault}
 use Rattle.tk_plan_json.specs.declared.node_faults.NodeFault.{NodeFault}
-use Rattle.tk_plan_json_members.specs.declared.faults.PlanFault.{PlanFault}
-use Rattle.tk_plan_json_members.specs.declared.faults.PlanFault.TheVariants.{Json, Field, Id, Table, TooManyResources, EntryKeyTwice, TooManyEvents, Deep, Memory}
+use Rattle.tk_plan_json.specs.declared.faults.PlanFault.{PlanFault}
+use Rattle.tk_plan_json.specs.declared.faults.PlanFault.TheVariants.{Json, Field, Id, Table, TooManyResources, EntryKeyTwice, TooManyEvents, Deep, Memory}
 
 -- what holds of a fault, save where memory ran out
 pub fault_also : (P Q : Type 0) (e : PlanFault) → (P → Q) → IsFault (λ _. P) e → IsFault (λ _. Q) e

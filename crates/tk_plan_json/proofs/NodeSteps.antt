@@ -15,7 +15,7 @@ use Rattle.tk_plan.specs.declared.trees.nodes.Node.{Node}
 use Rattle.tk_plan.specs.declared.trees.nodes.NumberedNode.{NumberedNode}
 use Rattle.tk_plan.specs.Trees.{flat, contents}
 use Rattle.tk_plan.specs.Ids.{descriptor_in, descriptors}
-use Rattle.tk_plan_json_members.specs.Checks.{first, member_at}
+use Rattle.tk_plan_json.specs.Checks.{first, member_at}
 use Rattle.tk_plan_json.specs.declared.node_faults.NodeFault.{NodeFault}
 use Rattle.tk_plan_json.specs.declared.read_nodes.ReadNodes.{ReadNodes}
 use Rattle.tk_plan_json.specs.NodeInputs.{NodeInput, NodeArray, node_input, segment_in, id_of, node_of, below, node_inputs, node_inputs_in, children_of, dynamic_of, children_in, dynamic_in, grown}

@@ -7,10 +7,10 @@ use Rattle.tk_ids.specs.IdText.{SegmentView}
 use Rattle.tk_plan.specs.declared.trees.nodes.Node.{Node}
 use Rattle.tk_plan.specs.Trees.{Tree, flat, flats, contents}
 use Rattle.tk_plan.specs.Ids.{descriptors, descriptors_below}
-use Rattle.tk_plan_json_members.specs.Checks.{first}
+use Rattle.tk_plan_json.specs.Checks.{first}
 use Rattle.tk_plan_json.specs.NodeInputs.{NodeInput, node_of, below, node_inputs, forest_of, grown}
 use Rattle.tk_plan_json.specs.Verdicts.{checks, joined, verdict, located, at_node}
-use Rattle.tk_plan_json_members.specs.declared.faults.PlanFault.{PlanFault}
+use Rattle.tk_plan_json.specs.declared.faults.PlanFault.{PlanFault}
 use Rattle.tk_plan_json.specs.declared.node_faults.NodeFault.{NodeFault}
 
 first-append : {A : Type 0} (xs ys : List (Option A)) → first (xs ++ ys) ≡ option_or (first xs) (first ys)

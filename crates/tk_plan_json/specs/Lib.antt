@@ -1,3 +1,12 @@
+pub mod Characters
+pub mod Checks
+pub mod Rows
+pub mod Contents
+pub mod Refusals
+pub mod Answers
+pub mod Pointers
+pub mod MemberValues
+pub mod FaultTexts
 pub mod NodeInputs
 pub mod Verdicts
 pub mod Progress

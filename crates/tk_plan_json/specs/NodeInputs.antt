@@ -8,11 +8,11 @@ use Rattle.tk_ids.specs.IdText.{SegmentView}
 use Rattle.tk_plan.specs.declared.trees.nodes.Node.{Node}
 use Rattle.tk_ids.specs.declared.locks.Lock.{Lock}
 use Rattle.tk_plan.specs.Trees.{Tree, tree, Forest, no_trees, more}
-use Rattle.tk_plan_json_members.specs.Checks.{member_at, item_at}
-use Rattle.tk_plan_json_members.specs.Contents.{json_text, json_optional, json_truth, json_dtype}
-use Rattle.tk_plan_json_members.specs.Contents.{json_segment, json_concurrent, json_locks}
-use Rattle.tk_plan_json_members.specs.Contents.{json_outcome, json_entries, files_of, repeats}
-use Rattle.tk_plan_json_members.specs.Contents.{listed}
+use Rattle.tk_plan_json.specs.Checks.{member_at, item_at}
+use Rattle.tk_plan_json.specs.Contents.{json_text, json_optional, json_truth, json_dtype}
+use Rattle.tk_plan_json.specs.Contents.{json_segment, json_concurrent, json_locks}
+use Rattle.tk_plan_json.specs.Contents.{json_outcome, json_entries, files_of, repeats}
+use Rattle.tk_plan_json.specs.Contents.{listed}
 
 -- A value that stands for a node: its place as a JSON Pointer, its level, whether it is static,
 -- whether it may have files as in version 2, its parent's id, and the segments of the siblings

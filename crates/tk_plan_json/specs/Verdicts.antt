@@ -14,14 +14,14 @@ use Rattle.tk_ids.specs.declared.tables.TableFault.TheVariants.{Twice, Full}
 use Rattle.tk_plan.specs.declared.trees.nodes.Node.{Node}
 use Rattle.tk_plan.specs.declared.units.needs.TheConstants.{MAX_KEYS}
 use Rattle.tk_plan.specs.Keys.{lock_keys}
-use Rattle.tk_plan_json_members.specs.Checks.{first}
-use Rattle.tk_plan_json_members.specs.Rows.{static_node, dynamic_node}
+use Rattle.tk_plan_json.specs.Checks.{first}
+use Rattle.tk_plan_json.specs.Rows.{static_node, dynamic_node}
 use Rattle.tk_plan_json.specs.NodeInputs.{NodeInput, segment_of, node_of, repeats_key}
-use Rattle.tk_plan_json_members.specs.declared.faults.PlanFault.{PlanFault}
-use Rattle.tk_plan_json_members.specs.declared.faults.PlanFault.TheVariants.{Field, Id, Table, Deep}
-use Rattle.tk_plan_json_members.specs.declared.faults.PlanFault.TheVariants.{TooManyResources}
-use Rattle.tk_plan_json_members.specs.declared.faults.PlanFault.TheVariants.{EntryKeyTwice, Memory}
-use Rattle.tk_plan_json_members.specs.Refusals.{IsFault}
+use Rattle.tk_plan_json.specs.declared.faults.PlanFault.{PlanFault}
+use Rattle.tk_plan_json.specs.declared.faults.PlanFault.TheVariants.{Field, Id, Table, Deep}
+use Rattle.tk_plan_json.specs.declared.faults.PlanFault.TheVariants.{TooManyResources}
+use Rattle.tk_plan_json.specs.declared.faults.PlanFault.TheVariants.{EntryKeyTwice, Memory}
+use Rattle.tk_plan_json.specs.Refusals.{IsFault}
 use Rattle.tk_plan_json.specs.declared.node_faults.NodeFault.{NodeFault}
 use Rattle.tk_plan_json.specs.declared.limits.TheConstants.{MAX_LEVELS}
 

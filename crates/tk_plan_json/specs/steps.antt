@@ -1,3 +1,4 @@
+pub mod Members
 pub mod Fields
 pub mod CodeValues
 pub mod Progress

@@ -6,8 +6,8 @@ ghost use Rattle.tk_ids.specs.Answer.{IsMadeOf};
 ghost use Rattle.tk_ids.specs.declared.tables.TheConstants.{MAX_DESCRIPTORS};
 ghost use Rattle.tk_plan.specs.Keys.{note_locks};
 ghost use Rattle.tk_plan.specs.Trees.{contents};
-ghost use Rattle.tk_plan_json_members.specs.Answers.{Reads};
-ghost use Rattle.tk_plan_json_members.specs.Checks.{first};
+ghost use Rattle.tk_plan_json.specs.Answers.{Reads};
+ghost use Rattle.tk_plan_json.specs.Checks.{first};
 ghost use Rattle.tk_plan_json.specs.steps.Fields.{HasFields, checked_of, Meets};
 ghost use Rattle.tk_plan_json.specs.Verdicts.{id_fault, node_check, is_kind, checks};
 ghost use Rattle.tk_plan_json.specs.declared.limits.TheConstants.{MAX_LEVELS};
@@ -15,8 +15,10 @@ ghost use Rattle.tk_plan_json.specs.steps.CodeValues.{seen, above_of, json_segme
 ghost use Rattle.tk_plan_json.specs.Progress.{IsNoted};
 ghost use Rattle.tk_plan_json.specs.steps.Progress.{state, addition, IsEntered, IsAdmitted, IsChecked, room_checks};
 
+use crate::faults::PlanFault;
 use crate::limits::MAX_LEVELS;
 use crate::lock_keys::note_all;
+use crate::members::member_values::TwoTexts;
 use crate::node_fields::{Fields, dynamic_fields, static_fields};
 use crate::node_inputs::NodeInput;
 use crate::node_members::NodeMembers;
@@ -25,8 +27,6 @@ use crate::siblings::Siblings;
 use std::alloc::Global;
 use tk_ids::{IdFault, Lock, MAX_DESCRIPTORS, Segment, TableFault, UniqueId};
 use tk_plan::{MAX_KEYS, Node};
-use tk_plan_json_members::PlanFault;
-use tk_plan_json_members::member_values::TwoTexts;
 
 /// Reads the members of a node by its kind.
 fn fields_of<'v>(alloc: Global, node_input: NodeInput<'v>) -> Result<Fields<'v>, PlanFault>

@@ -1,10 +1,10 @@
 //! Faults of a plan, with the nodes that have them.
 ghost use Rattle.std.specs.Prelude.{◌≡◌, None};
 ghost use Rattle.tk_plan_json.specs.steps.Fields.{as_node_fault};
-ghost use Rattle.tk_plan_json_members.specs.declared.faults.PlanFault.TheVariants.{Memory};
+ghost use Rattle.tk_plan_json.specs.declared.faults.PlanFault.TheVariants.{Memory};
 
+use crate::faults::PlanFault;
 use std::alloc::AllocError;
-use tk_plan_json_members::PlanFault;
 
 /// Why there is no plan, and which node's fault it is.
 #[derive(Debug, Drop)]

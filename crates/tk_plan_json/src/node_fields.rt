@@ -1,30 +1,30 @@
 //! The members of a node.
 ghost use Rattle.std.specs.Prelude.{◌≡◌, [], true, false, map};
 ghost use Rattle.serde_json.specs.View.{view};
-ghost use Rattle.tk_plan_json_members.specs.Checks.{members_wrong, unknown};
-ghost use Rattle.tk_plan_json_members.specs.Rows.{static_rows, dynamic_rows, static_node, dynamic_node};
+ghost use Rattle.tk_plan_json.specs.Checks.{members_wrong, unknown};
+ghost use Rattle.tk_plan_json.specs.Rows.{static_rows, dynamic_rows, static_node, dynamic_node};
 ghost use Rattle.tk_plan_json.specs.NodeInputs.{children_of, dynamic_of};
-ghost use Rattle.tk_plan_json_members.specs.Pointers.{pointer};
-ghost use Rattle.tk_plan_json_members.specs.Answers.{Reads};
+ghost use Rattle.tk_plan_json.specs.Pointers.{pointer};
+ghost use Rattle.tk_plan_json.specs.Answers.{Reads};
 ghost use Rattle.tk_plan_json.specs.steps.Fields.{heading_rows, concurrency_rows, content_rows, below_rows, has_no_below, AreMembers, IsHeading, IsConcurrency, IsContent, HasFields};
 
+use crate::faults::PlanFault;
+use crate::members::file_members::files_member;
+use crate::members::json_members::{
+    array_member, check_members, dtype_member, isolated_member, mode_member, optional_member,
+    segment_member, text_member,
+};
+use crate::members::json_paths::JsonPath;
+use crate::members::json_values::{into_items, into_members};
+use crate::members::lock_members::locks_member;
+use crate::members::member_values::{Reports, TwoTexts};
+use crate::members::result_members::{entries_member, result_member};
 use crate::node_members::NodeMembers;
 use serde_json::Value;
 use std::alloc::Global;
 use tk_events::Outcome;
 use tk_ids::{DType, Text};
 use tk_plan::{Files, NodeLocks};
-use tk_plan_json_members::PlanFault;
-use tk_plan_json_members::file_members::files_member;
-use tk_plan_json_members::json_members::{
-    array_member, check_members, dtype_member, isolated_member, mode_member, optional_member,
-    segment_member, text_member,
-};
-use tk_plan_json_members::json_paths::JsonPath;
-use tk_plan_json_members::json_values::{into_items, into_members};
-use tk_plan_json_members::lock_members::locks_member;
-use tk_plan_json_members::member_values::{Reports, TwoTexts};
-use tk_plan_json_members::result_members::{entries_member, result_member};
 
 /// What the members `type`, `segment` and `name` of a node say.
 #[derive(Drop)]

@@ -1,11 +1,11 @@
 //! Values that stand for nodes, and where they stand.
 ghost use Rattle.std.specs.Prelude.{◌≡◌, flat_map};
-ghost use Rattle.tk_plan_json_members.specs.Checks.{escape};
+ghost use Rattle.tk_plan_json.specs.Checks.{escape};
 ghost use Rattle.tk_plan_json.specs.steps.CodeValues.{member_name, has_static};
 
+use crate::members::json_paths::JsonPath;
 use serde_json::Value;
 use tk_ids::UniqueId;
-use tk_plan_json_members::json_paths::JsonPath;
 
 /// Where a node stands.
 #[derive(Clone, Copy, Drop)]

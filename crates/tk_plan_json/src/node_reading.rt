@@ -3,7 +3,7 @@ ghost use Rattle.std.specs.Prelude.{◌≡◌, ◌≤◌, ◌<◌, ◌+◌, ◌-
 ghost use Rattle.serde_json.specs.View.{view};
 ghost use Rattle.tk_plan.specs.Trees.{flat, contents};
 ghost use Rattle.tk_plan.specs.Ids.{descriptors};
-ghost use Rattle.tk_plan_json_members.specs.Checks.{first};
+ghost use Rattle.tk_plan_json.specs.Checks.{first};
 ghost use Rattle.tk_plan_json.specs.Verdicts.{checks, located, MeetsAt};
 ghost use Rattle.tk_ids.specs.declared.tables.TheConstants.{MAX_DESCRIPTORS};
 ghost use Rattle.tk_plan_json.specs.declared.limits.TheConstants.{MAX_LEVELS};
@@ -13,6 +13,9 @@ ghost use Rattle.tk_plan_json.specs.steps.Fields.{Meets};
 ghost use Rattle.tk_plan_json.specs.steps.CodeValues.{seen, node_at, array_at};
 ghost use Rattle.tk_plan_json.specs.NodeInputs.{node_inputs, node_inputs_in, root_at, below, grown, id_of, segment_in, segment_of};
 
+use crate::faults::PlanFault;
+use crate::members::json_paths::JsonPath;
+use crate::members::path_texts::member_path;
 use crate::node_checks::check_node;
 use crate::node_faults::NodeFault;
 use crate::node_fields::into_below;
@@ -23,9 +26,6 @@ use serde_json::Value;
 use std::alloc::{AllocError, Global};
 use tk_ids::{Descriptor, UniqueId};
 use tk_plan::{Node, NumberedNode};
-use tk_plan_json_members::PlanFault;
-use tk_plan_json_members::json_paths::JsonPath;
-use tk_plan_json_members::path_texts::member_path;
 
 /// Puts the descriptor of a static node at the end, or counts a dynamic node.
 fn add_descriptor(

@@ -4,11 +4,11 @@ ghost use Rattle.std.specs.List.{list_any};
 ghost use Rattle.tk_plan_json.specs.Verdicts.{same_segment};
 ghost use Rattle.tk_plan_json.specs.steps.CodeValues.{json_segment_text};
 
+use crate::members::member_values::TwoTexts;
 use indexmap::IndexSet;
 use std::alloc::{AllocError, Global};
 use std::marker::Model;
 use tk_ids::Text;
-use tk_plan_json_members::member_values::TwoTexts;
 
 /// The segments of a parent's children, as far as they were read.
 #[derive(Drop)]

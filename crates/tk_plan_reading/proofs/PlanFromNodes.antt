@@ -15,8 +15,8 @@ use Rattle.tk_plan.specs.Numbers.{of_kind}
 use Rattle.tk_plan.specs.Planned.{IsPlanned, is_rooted, is_lawful_node}
 use Rattle.tk_plan.specs.Script.{moves, moves_below}
 use Rattle.tk_plan.proofs.Grows.{is_forest, forest-flats}
-use Rattle.tk_plan_json_members.specs.Answers.{Refuses}
-use Rattle.tk_plan_json_members.specs.Checks.{first}
+use Rattle.tk_plan_json.specs.Answers.{Refuses}
+use Rattle.tk_plan_json.specs.Checks.{first}
 use Rattle.std.specs.Option.{option_and_then}
 use Rattle.tk_plan_json.proofs.Verdicts.{verdict-located}
 use Rattle.tk_plan_json.specs.Verdicts.{verdict, located, FaultsAt, is_kind, when}
@@ -24,11 +24,11 @@ use Rattle.tk_plan_json.specs.declared.node_faults.NodeFault.{NodeFault}
 use Rattle.tk_plan_reading.specs.FaultyNodes.{HasNode, after_top, faulty_node}
 use Rattle.tk_plan_reading.specs.PlanOf.{PlanOf, top, takes_files_in, root_of, first_fault, events_fault, ok_unless}
 use Rattle.tk_plan_json.specs.Progress.{IsNoted}
-use Rattle.tk_plan_json_members.specs.Refusals.{IsFault}
+use Rattle.tk_plan_json.specs.Refusals.{IsFault}
 use Rattle.tk_plan_json.specs.NodeInputs.{NodeInput, root_at, node_inputs, grown}
 use Rattle.tk_plan_json.specs.declared.read_nodes.ReadNodes.{ReadNodes}
-use Rattle.tk_plan_json_members.specs.declared.faults.PlanFault.{PlanFault}
-use Rattle.tk_plan_json_members.specs.declared.faults.PlanFault.TheVariants.{Json, Field, Id, Table, TooManyResources, EntryKeyTwice, TooManyEvents, Deep, Memory}
+use Rattle.tk_plan_json.specs.declared.faults.PlanFault.{PlanFault}
+use Rattle.tk_plan_json.specs.declared.faults.PlanFault.TheVariants.{Json, Field, Id, Table, TooManyResources, EntryKeyTwice, TooManyEvents, Deep, Memory}
 use Rattle.tk_plan_json.proofs.Distinct.{apart_grown, distinct_in, are_distinct}
 
 pub fault_as : (P Q : PlanFault → Type 0) (e : PlanFault) → ((f : PlanFault) → P f → Q f) → IsFault P e → IsFault Q e

@@ -8,10 +8,10 @@ use Rattle.tk_plan.specs.Planned.{Outline}
 use Rattle.tk_plan_reading.specs.PlanAnswers.{Answered, outline}
 use Rattle.tk_plan_json.specs.Verdicts.{verdict}
 use Rattle.tk_plan_reading.specs.PlanOf.{PlanOf, top, root_of, first_fault, ok_unless}
-use Rattle.tk_plan_json_members.specs.Refusals.{IsFault}
+use Rattle.tk_plan_json.specs.Refusals.{IsFault}
 use Rattle.tk_plan_json.specs.NodeInputs.{node_inputs, grown}
-use Rattle.tk_plan_json_members.specs.declared.faults.PlanFault.{PlanFault}
-use Rattle.tk_plan_json_members.specs.declared.faults.PlanFault.TheVariants.{Json, Field, Id, Table, TooManyResources, EntryKeyTwice, TooManyEvents, Deep, Memory}
+use Rattle.tk_plan_json.specs.declared.faults.PlanFault.{PlanFault}
+use Rattle.tk_plan_json.specs.declared.faults.PlanFault.TheVariants.{Json, Field, Id, Table, TooManyResources, EntryKeyTwice, TooManyEvents, Deep, Memory}
 use Rattle.tk_plan_json.proofs.Distinct.{apart_grown, distinct_in, are_distinct}
 
 no_fault_in : (o : Option PlanFault) (t u : Tree) → ok_unless o t ≡ Ok u → (o ≡ None) × (t ≡ u)

@@ -6,7 +6,7 @@ use Rattle.serde_json.specs.Data.{Data}
 use Rattle.serde_json.specs.Read.{read}
 use Rattle.tk_plan_reading.specs.PlanOf.{PlanOf}
 use Rattle.tk_plan_reading.specs.PlanAnswers.{plan_in, plan_or_json}
-use Rattle.tk_plan_json_members.specs.declared.faults.PlanFault.TheVariants.{Json}
+use Rattle.tk_plan_json.specs.declared.faults.PlanFault.TheVariants.{Json}
 
 pub value_here : (bytes : List ℕ) (d : Data) → IsUtf8 bytes → read bytes ≡ Some d → plan_in bytes ≡ PlanOf d
 value_here bytes d u e = ap (λ b. plan_or_json (cond b (read bytes) None)) (is_utf8-from_IsUtf8 bytes u) ∙ ap plan_or_json e

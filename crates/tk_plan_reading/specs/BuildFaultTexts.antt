@@ -1,7 +1,7 @@
 -- The texts of the faults of plans in code.
 use Rattle.std.specs.Prelude.{ℕ, List, ◌++◌, Option, Some, None, codes}
 use Rattle.tk_events.specs.Fields.{field_text}
-use Rattle.tk_plan_json_members.specs.FaultTexts.{plan_fault_text}
+use Rattle.tk_plan_json.specs.FaultTexts.{plan_fault_text}
 use Rattle.tk_plan_reading.specs.declared.build_faults.BuildFault.{BuildFault}
 
 -- what is wrong, and at which node, if a node has the fault

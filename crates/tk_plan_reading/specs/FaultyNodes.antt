@@ -2,16 +2,16 @@
 use Rattle.std.specs.Prelude.{◌≡◌, ℕ, List, [], Option, Some, None}
 use Rattle.std.specs.Option.{option_and_then}
 use Rattle.serde_json.specs.Data.{Data}
-use Rattle.tk_plan_code.specs.NodeIds.{id_at}
-use Rattle.tk_plan_code.specs.NodeJson.{plan_data}
-use Rattle.tk_plan_code.specs.declared.plan_nodes.PlanNode.{PlanNode}
+use Rattle.tk_plan_nodes.specs.NodeIds.{id_at}
+use Rattle.tk_plan_nodes.specs.NodeJson.{plan_data}
+use Rattle.tk_plan_nodes.specs.declared.plan_nodes.PlanNode.{PlanNode}
 use Rattle.tk_plan_json.specs.NodeInputs.{node_inputs}
 use Rattle.tk_plan_json.specs.Verdicts.{located}
 use Rattle.tk_plan_json.specs.declared.limits.TheConstants.{MAX_LEVELS}
 use Rattle.tk_plan_json.specs.declared.node_faults.NodeFault.{NodeFault}
-use Rattle.tk_plan_json_members.specs.Refusals.{IsFault}
-use Rattle.tk_plan_json_members.specs.declared.faults.PlanFault.{PlanFault}
-use Rattle.tk_plan_json_members.specs.declared.faults.PlanFault.TheVariants.{Memory}
+use Rattle.tk_plan_json.specs.Refusals.{IsFault}
+use Rattle.tk_plan_json.specs.declared.faults.PlanFault.{PlanFault}
+use Rattle.tk_plan_json.specs.declared.faults.PlanFault.TheVariants.{Memory}
 use Rattle.tk_plan_reading.specs.PlanOf.{top, root_of}
 
 -- no node's fault is the first where the members above the root are wrong

@@ -8,9 +8,9 @@ use Rattle.tk_plan.specs.Numbers.{numbered}
 use Rattle.tk_plan.specs.Ids.{descriptors}
 use Rattle.tk_plan.specs.Planned.{Outline}
 use Rattle.tk_plan_reading.specs.PlanOf.{PlanOf}
-use Rattle.tk_plan_json_members.specs.Refusals.{IsFault}
-use Rattle.tk_plan_json_members.specs.declared.faults.PlanFault.{PlanFault}
-use Rattle.tk_plan_json_members.specs.declared.faults.PlanFault.TheVariants.{Json}
+use Rattle.tk_plan_json.specs.Refusals.{IsFault}
+use Rattle.tk_plan_json.specs.declared.faults.PlanFault.{PlanFault}
+use Rattle.tk_plan_json.specs.declared.faults.PlanFault.TheVariants.{Json}
 use Rattle.tk_plan_reading.specs.declared.build_faults.BuildFault.{BuildFault}
 
 -- a tree's nodes in preorder with their numbers, and the descriptors of the static ones

@@ -6,8 +6,8 @@ use Rattle.tk_plan.specs.Ids.{ids, AreDistinct}
 use Rattle.tk_plan.specs.Planned.{Outline}
 use Rattle.tk_plan_reading.specs.PlanAnswers.{plan_in, Answered}
 use Rattle.tk_plan_reading.specs.PlanOf.{PlanOf}
-use Rattle.tk_plan_json_members.specs.declared.faults.PlanFault.{PlanFault}
-use Rattle.tk_plan_json_members.specs.declared.faults.PlanFault.TheVariants.{Memory}
+use Rattle.tk_plan_json.specs.declared.faults.PlanFault.{PlanFault}
+use Rattle.tk_plan_json.specs.declared.faults.PlanFault.TheVariants.{Memory}
 
 -- no id of a plan's tree stands at two places
 abbrev pub IdsDiffer : Type 0

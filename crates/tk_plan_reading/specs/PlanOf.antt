@@ -7,11 +7,11 @@ use Rattle.serde_json.specs.Find.{get}
 use Rattle.tk_base.specs.declared.limits.TheConstants.{MAX_EVENTS}
 use Rattle.tk_plan.specs.Trees.{Tree}
 use Rattle.tk_plan.specs.Script.{moves}
-use Rattle.tk_plan_json_members.specs.Checks.{Check, first, object_of, must}
+use Rattle.tk_plan_json.specs.Checks.{Check, first, object_of, must}
 use Rattle.tk_plan_json.specs.NodeInputs.{NodeInput, root_at, node_inputs, grown}
 use Rattle.tk_plan_json.specs.Verdicts.{verdict, when}
-use Rattle.tk_plan_json_members.specs.declared.faults.PlanFault.{PlanFault}
-use Rattle.tk_plan_json_members.specs.declared.faults.PlanFault.TheVariants.{Field, TooManyEvents}
+use Rattle.tk_plan_json.specs.declared.faults.PlanFault.{PlanFault}
+use Rattle.tk_plan_json.specs.declared.faults.PlanFault.TheVariants.{Field, TooManyEvents}
 use Rattle.tk_plan_json.specs.declared.limits.TheConstants.{MAX_LEVELS}
 
 -- the number 1 or 2, written without fraction or exponent

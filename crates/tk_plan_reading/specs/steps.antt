@@ -6,8 +6,8 @@ use Rattle.tk_plan.specs.Ids.{descriptors}
 use Rattle.tk_plan.specs.Planned.{IsPlanned}
 use Rattle.tk_plan.specs.Trees.{Tree, flat}
 use Rattle.tk_plan_json.specs.Progress.{IsNoted}
-use Rattle.tk_plan_json_members.specs.Refusals.{IsFault}
-use Rattle.tk_plan_json_members.specs.declared.faults.PlanFault.{PlanFault}
+use Rattle.tk_plan_json.specs.Refusals.{IsFault}
+use Rattle.tk_plan_json.specs.declared.faults.PlanFault.{PlanFault}
 use Rattle.tk_plan_json.specs.declared.node_faults.NodeFault.{NodeFault}
 use Rattle.tk_plan_json.specs.declared.read_nodes.ReadNodes.{ReadNodes}
 

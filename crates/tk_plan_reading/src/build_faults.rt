@@ -1,6 +1,6 @@
 //! Why there is no plan of nodes in code.
 ghost use Rattle.std.specs.Prelude.{◌≡◌, None, Some};
-ghost use Rattle.tk_plan_json_members.specs.declared.faults.PlanFault.TheVariants.{Memory};
+ghost use Rattle.tk_plan_json.specs.declared.faults.PlanFault.TheVariants.{Memory};
 ghost use Rattle.tk_plan_reading.specs.BuildFaultTexts.{build_fault_text};
 
 use std::alloc::{AllocError, AllocFailed};
@@ -8,7 +8,7 @@ use std::error::Error;
 use std::fmt;
 use tk_events::fmt_field;
 use tk_ids::Text;
-use tk_plan_json_members::PlanFault;
+use tk_plan_json::PlanFault;
 
 /// Why nodes in code are no plan, and at which node.
 ///

@@ -1,8 +1,8 @@
 //! Building a plan from nodes in code.
 ghost use Rattle.std.specs.Prelude.{◌≡◌, IfErr, IfOk};
 ghost use Rattle.std.specs.Option.{option_and_then};
-ghost use Rattle.tk_plan_code.specs.NodeIds.{id_at};
-ghost use Rattle.tk_plan_code.specs.NodeJson.{plan_data};
+ghost use Rattle.tk_plan_nodes.specs.NodeIds.{id_at};
+ghost use Rattle.tk_plan_nodes.specs.NodeJson.{plan_data};
 ghost use Rattle.tk_plan_reading.specs.FaultyNodes.{HasNode, faulty_id};
 ghost use Rattle.tk_plan_reading.specs.PlanAnswers.{Answered, without_node};
 ghost use Rattle.tk_plan_reading.specs.PlanOf.{PlanOf};
@@ -11,10 +11,10 @@ use crate::build_faults::BuildFault;
 use crate::plan_reading::{nodes_of, plan_from};
 use std::alloc::{AllocError, Global};
 use tk_plan::Plan;
-use tk_plan_code::PlanNode;
-use tk_plan_code::node_ids::write_id;
-use tk_plan_code::node_values::plan_value;
 use tk_plan_json::NodeFault;
+use tk_plan_nodes::PlanNode;
+use tk_plan_nodes::node_ids::write_id;
+use tk_plan_nodes::node_values::plan_value;
 
 /// Writes the id of the node that has the fault.
 fn with_id(alloc: Global, root: &PlanNode<'_>, fault: NodeFault) -> Result<BuildFault, AllocError>

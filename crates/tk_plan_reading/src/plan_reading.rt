@@ -2,8 +2,8 @@
 ghost use Rattle.std.specs.Prelude.{◌≡◌, ◌≤◌, ◌<◌, ◌++◌, ◌∷◌, [], Some, codes, length, IfErr, IfOk, OnOk, option_map};
 ghost use Rattle.serde_json.specs.Find.{get};
 ghost use Rattle.serde_json.specs.View.{view};
-ghost use Rattle.tk_plan_json_members.specs.Answers.{Reads};
-ghost use Rattle.tk_plan_json_members.specs.Checks.{member_at, member_wrong, must};
+ghost use Rattle.tk_plan_json.specs.Answers.{Reads};
+ghost use Rattle.tk_plan_json.specs.Checks.{member_at, member_wrong, must};
 ghost use Rattle.tk_plan_reading.specs.PlanOf.{PlanOf, one_or_two, is_two, takes_files_in, anything, top};
 ghost use Rattle.tk_plan_reading.specs.FaultyNodes.{HasNode, faulty_node};
 ghost use Rattle.tk_plan_reading.specs.PlanAnswers.{plan_in, Answered};
@@ -20,14 +20,13 @@ use std::alloc::{AllocError, Global};
 use std::sync::Arc;
 use tk_ids::{Descriptor, Table, Text};
 use tk_plan::{Plan, count_events};
-use tk_plan_json::NodeFault;
+use tk_plan_json::members::json_members::check_members;
+use tk_plan_json::members::json_paths::JsonPath;
+use tk_plan_json::members::json_values::into_members;
+use tk_plan_json::members::path_texts::wrong_member;
 use tk_plan_json::node_reading::read_nodes;
 use tk_plan_json::read_nodes::ReadNodes;
-use tk_plan_json_members::PlanFault;
-use tk_plan_json_members::json_members::check_members;
-use tk_plan_json_members::json_paths::JsonPath;
-use tk_plan_json_members::json_values::into_members;
-use tk_plan_json_members::path_texts::wrong_member;
+use tk_plan_json::{NodeFault, PlanFault};
 
 /// Reads the member `version`, which is 1 or 2: whether it is 2, so that nodes may have files.
 fn version_member(alloc: Global, version: Option<Value>) -> Result<bool, PlanFault>

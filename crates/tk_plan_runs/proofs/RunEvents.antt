@@ -1,5 +1,5 @@
 -- What was written of a plan's run is the plan's report.
-use Rattle.std.proofs.Common.{◌≡◌, ◌≢◌, ◌<◌, ◌≤◌, ◌⊎◌, ℕ, List, Option, Result, Ok, Err, refl, ap, ◌∙◌, subst, arith, inl, inr, ⊎_elim}
+use Rattle.std.proofs.Common.{◌≡◌, ◌≢◌, ◌<◌, ◌≤◌, ◌⊎◌, ℕ, List, Option, Result, Ok, Err, length, refl, ap, sym, ◌∙◌, subst, arith, inl, inr, ⊎_elim}
 use Rattle.std.proofs.lemmas.Bool.{cases_lt}
 use Rattle.std.specs.Io.KnownBytes.{Appends}
 use Rattle.tk_base.specs.declared.limits.TheConstants.{MAX_WORKERS}
@@ -8,17 +8,21 @@ use Rattle.tk_record.specs.Recorded.{Recorded}
 use Rattle.tk_streams.specs.Stream.{AppendsPrefix}
 use Rattle.tk_plan.specs.Planned.{Outline}
 use Rattle.tk_plan_reading.specs.PlanAnswers.{plan_in, Answered}
-use Rattle.tk_plan_json_members.specs.declared.faults.PlanFault.{PlanFault}
-use Rattle.tk_plan_json_members.specs.declared.faults.PlanFault.TheVariants as plans
+use Rattle.tk_plan_json.specs.declared.faults.PlanFault.{PlanFault}
+use Rattle.tk_plan_json.specs.declared.faults.PlanFault.TheVariants as plans
 use Rattle.tk_engine_execute.specs.declared.engines.UnitFault.{UnitFault}
 use Rattle.tk_engine_execute.specs.declared.run_faults.RunFault.{RunFault}
 use Rattle.tk_engine_execute.specs.declared.run_faults.RunFault.TheVariants as runs
+use Rattle.tk_record_text.specs.Laws.{WhatIsWrittenIsRead}
+use Rattle.tk_record_text.specs.Text.{HasTextIn, IsAnswer}
+use Rattle.tk_record_text.specs.declared.reading.TheConstants.{MAX_TEXT}
+use Rattle.tk_record_text.specs.declared.versions.Version.TheVariants.{Three}
 use Rattle.tk_report_text.specs.Reports.{report_of_record}
-use Rattle.tk_plan_laws.specs.Reports.{report_of_plan}
+use Rattle.tk_run_laws.specs.Reports.{report_of_plan}
 use Rattle.tk_plan_runs.specs.declared.plan_runs.PlanRun.{PlanRun}
 use Rattle.tk_plan_runs.specs.declared.faults.ReportFault.{ReportFault}
 use Rattle.tk_plan_runs.specs.declared.faults.ReportFault.TheVariants.{Plan, Run, Device, Memory}
-use Rattle.tk_plan_runs.specs.Answers.{IsNotRun, IsPlanRun, IsPlanText, IsReported, OfRun, IsRunFault}
+use Rattle.tk_plan_runs.specs.Answers.{IsNotRun, IsPlanRun, IsPlanText, IsReported, OfRun, IsRunFault, RunIsReadBack}
 use Rattle.tk_plan_runs.specs.Answers.{IsRunOfPlan, IsRunRecord, IsRunReport, MayWork, OfPlan, UnitMayFail, plan_text}
 use Rattle.tk_plan_runs.specs.Faults.{fault_of_plan, fault_of_run}
 
@@ -52,13 +56,23 @@ reported bytes workers old new run result of h =
 -- the record of a plan's run was written, or a prefix of its text, or nothing
 pub recorded : (bytes : List ℕ) (workers : ℕ) (old new : Option (List ℕ)) (run : PlanRun)
     (result : Result (Unit {0}) ReportFault) → IsRunOfPlan bytes workers run
-    → IsRunRecord run.results.recorded old new result
+    → HasTextIn Three run.results.recorded → IsRunRecord run.results.recorded old new result
     → IsPlanText (OfRun bytes workers) bytes workers old new result
-recorded bytes workers old new run (Ok u) of h = ((run, of, h), of.may_work)
-recorded bytes workers old new run (Err (Plan f)) of h = absurd h
-recorded bytes workers old new run (Err (Run f)) of h = absurd h
-recorded bytes workers old new run (Err Device) of h = ((run, of, h), of.may_work)
-recorded bytes workers old new run (Err Memory) of h = tt
+recorded bytes workers old new run (Ok u) of has h = ((run, of, has, h), of.may_work)
+recorded bytes workers old new run (Err (Plan f)) of has h = absurd h
+recorded bytes workers old new run (Err (Run f)) of has h = absurd h
+recorded bytes workers old new run (Err Device) of has h = ((run, of, has, h), of.may_work)
+recorded bytes workers old new run (Err Memory) of has h = tt
+
+-- the record of a run is read back from its text
+pub read_back : WhatIsWrittenIsRead → RunIsReadBack
+read_back law bytes workers text answer (run, of, has, is_text) within settled is = (
+  run,
+  of,
+  law Three run.results.recorded answer has
+      (subst (λ (t : List ℕ). length t ≤ MAX_TEXT) (sym is_text) within) settled
+      (subst (λ (t : List ℕ). IsAnswer t answer) (sym is_text) is),
+)
 
 -- of a plan that is not run nothing is written
 pub not_reported : (OfText : (List ℕ → Type 0) → Type 0) (bytes : List ℕ) (workers : ℕ)

@@ -8,8 +8,8 @@ use Rattle.tk_query_lifecycle.specs.KeepsLifecycle.{KeepsLifecycle}
 use Rattle.tk_plan.specs.Cutting.{units_of}
 use Rattle.tk_plan.specs.Planned.{Outline}
 use Rattle.tk_plan.specs.Trees.{Tree, forest}
-use Rattle.tk_plan_json_members.specs.declared.faults.PlanFault.{PlanFault}
-use Rattle.tk_plan_json_members.specs.declared.faults.PlanFault.TheVariants as plans
+use Rattle.tk_plan_json.specs.declared.faults.PlanFault.{PlanFault}
+use Rattle.tk_plan_json.specs.declared.faults.PlanFault.TheVariants as plans
 use Rattle.tk_plan_reading.specs.PlanAnswers.{plan_in, outline, Answered}
 use Rattle.tk_queue_session.specs.Limits.{capacity_of}
 use Rattle.tk_engine_execute.specs.declared.run_faults.RunFault.{RunFault}
@@ -17,11 +17,15 @@ use Rattle.tk_engine_execute.specs.declared.run_faults.RunFault.TheVariants as r
 use Rattle.tk_engine_execute.specs.declared.engines.UnitFault.{UnitFault}
 use Rattle.tk_engine_execute.specs.Engines.{MayFail}
 use Rattle.tk_engine_execute.specs.Results.{IsTallied}
-use Rattle.tk_record_text.specs.Text.{text}
+use Rattle.tk_record_text.specs.Laws.{IsSettled}
+use Rattle.tk_record_text.specs.Text.{HasTextIn, IsAnswer, text_in}
+use Rattle.tk_record_text.specs.declared.reading.ReadFault.{ReadFault}
+use Rattle.tk_record_text.specs.declared.reading.TheConstants.{MAX_TEXT}
+use Rattle.tk_record_text.specs.declared.versions.Version.TheVariants.{Three}
 use Rattle.tk_report_text.specs.Reports.{report_of_record}
-use Rattle.tk_plan_laws.specs.Laws.{IsKept}
-use Rattle.tk_plan_laws.specs.Reports.{report_of_plan}
-use Rattle.tk_plan_laws.specs.Scripts.{IsRunOf}
+use Rattle.tk_run_laws.specs.Laws.{IsKept}
+use Rattle.tk_run_laws.specs.Reports.{report_of_plan}
+use Rattle.tk_run_laws.specs.Scripts.{IsRunOf}
 use Rattle.tk_engine_scripted.specs.Plays.{IsPlayFault}
 use Rattle.tk_plan_runs.specs.declared.plan_runs.PlanRun.{PlanRun}
 use Rattle.tk_plan_runs.specs.declared.plan_runs.TheConstants.{DEFAULT_CAPACITY}
@@ -43,10 +47,10 @@ abbrev pub IsRunReport :
     Recorded → Option (List ℕ) → Option (List ℕ) → Result (Unit {0}) ReportFault → Type 0
 IsRunReport r = IsRunText (report_of_record r)
 
--- what writing the text of a record answers
+-- what writing the text of a record in version 3 answers
 abbrev pub IsRunRecord :
     Recorded → Option (List ℕ) → Option (List ℕ) → Result (Unit {0}) ReportFault → Type 0
-IsRunRecord r = IsRunText (text r)
+IsRunRecord r = IsRunText (text_in Three r)
 
 -- the report of a plan that was read
 abbrev pub plan_text : Tree → List ℕ
@@ -103,10 +107,20 @@ IsPlanRun bytes workers (Err (Run f)) = IsNotRun bytes workers f
 IsPlanRun bytes workers (Err Device) = ⊥
 IsPlanRun bytes workers (Err Memory) = Unit {0}
 
--- the bytes are a plan, and W holds of the text of the record of a run by `workers` workers
+-- the bytes are a plan, the record of a run by `workers` workers has a text in version 3, and W
+-- holds of it
 abbrev pub OfRun : List ℕ → ℕ → (List ℕ → Type 0) → Type 0
 OfRun bytes workers W =
-    (run : PlanRun) × IsRunOfPlan bytes workers run × W (text run.results.recorded)
+    (run : PlanRun) × IsRunOfPlan bytes workers run × HasTextIn Three run.results.recorded
+    × W (text_in Three run.results.recorded)
+
+-- What reading the text of the record of a run answers, unless a device breaks or memory is
+-- refused, is the record of the run.
+abbrev pub RunIsReadBack : Type 0
+RunIsReadBack = (bytes : List ℕ) (workers : ℕ) (text : List ℕ) (answer : Result Recorded ReadFault)
+    → OfRun bytes workers (λ written. written ≡ text) → length text ≤ MAX_TEXT
+    → IsSettled answer → IsAnswer text answer
+    → (run : PlanRun) × IsRunOfPlan bytes workers run × (answer ≡ Ok run.results.recorded)
 
 -- What running a plan by `workers` workers and writing a text of it answers, and what was written
 -- at an Ok and at a broken target: W holds of the text where `OfText` does of W.

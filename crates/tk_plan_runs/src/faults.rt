@@ -5,7 +5,7 @@ ghost use Rattle.tk_plan_runs.specs.Faults.{fault_of_plan, fault_of_run};
 use crate::fault_texts::ReportFaultText;
 use thiserror::Error;
 use tk_engine_execute::RunFault;
-use tk_plan_json_members::PlanFault;
+use tk_plan_json::PlanFault;
 
 /// Why a report was not written. At `Device` a prefix of it was, at the others nothing.
 #[derive(Debug, Drop, Error)]

@@ -7,8 +7,8 @@ use std::sync::Wait;
 use std::thread::Threads;
 use tk_engine_execute::{Results, execute};
 use tk_engine_scripted::Scripted;
-use tk_plan_laws::laws::{lifecycle, report_is_unique};
 use tk_plan_reading::read_plan;
+use tk_run_laws::laws::{lifecycle, report_is_unique};
 
 /// How many items the queue of a run holds where the caller gives no number, as in [`run_plan`].
 pub const DEFAULT_CAPACITY: usize = 64;

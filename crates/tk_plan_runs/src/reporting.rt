@@ -3,6 +3,8 @@ ghost use Rattle.std.specs.Prelude.{◌≡◌, ◌⊎◌, true, IfErr, OnOk, OnE
 ghost use Rattle.std.specs.Io.KnownBytes.{Appends};
 ghost use Rattle.tk_streams.specs.Stream.{AppendsPrefix};
 ghost use Rattle.tk_report_text.specs.Reports.{report_of_record};
+ghost use Rattle.tk_record_text.specs.Text.{HasTextIn};
+ghost use Rattle.tk_record_text.specs.declared.versions.Version.TheVariants.{Three};
 ghost use Rattle.tk_plan_runs.specs.Answers.{IsReported, IsRunRecord, IsRunReport};
 
 use crate::faults::ReportFault;
@@ -11,7 +13,7 @@ use std::alloc::Global;
 use std::sync::Wait;
 use std::thread::Threads;
 use tk_engine_execute::Results;
-use tk_record_text::{WriteFault, write_record};
+use tk_record_text::{WriteFault, write_whole_record};
 use tk_report_text::write_report_of;
 use tk_streams::Target;
 
@@ -38,21 +40,18 @@ pub fn write_report<T: Target>(
     }
 }
 
-/// Writes the record of a run into `target`, as a record text.
+/// Writes the record of a run into `target`, as a record text of version 3, which says where it ends.
 ///
 /// # Errors
 /// `Device` where the target broke, after a prefix of the text.
-pub fn write_run_record<T: Target>(
-    alloc: Global,
-    results: &Results,
-    target: &mut T,
-) -> Result<(), ReportFault>
+pub fn write_run_record<T: Target>(results: &Results, target: &mut T) -> Result<(), ReportFault>
     ensures answer { IsRunRecord results.now.recorded (T.contents target.old)
         (T.contents target.new) result }
     ensures unwritten { IsErrOf result ReportFault.Memory → target.new ≡ target.old }
     ensures device { IsErrOf result ReportFault.Device → T.broken target.new ≡ true }
+    ensures has_text { HasTextIn Three results.now.recorded }
 {
-    match write_record(alloc, results.recorded(), target) {
+    match write_whole_record(results.recorded(), target) {
         Ok(()) => Ok(()),
         // It takes no memory.
         Err(_) => Err(ReportFault::Device),

@@ -13,7 +13,7 @@ use Rattle.tk_query.specs.declared.answers.InOrder.TheVariants as in_order
 use Rattle.tk_query.specs.declared.answers.Exclusive.TheVariants as exclusive
 use Rattle.tk_query.specs.declared.execution.Execution.{Execution}
 use Rattle.tk_query.specs.Asked.{fits}
-use Rattle.tk_query.specs.Exclusive.{CollideAt}
+use Rattle.tk_query.specs.Exclusive.{Collide}
 use Rattle.tk_query.specs.Holds.{holds}
 use Rattle.tk_query.specs.InOrder.{HoldInTurn, IsNotAfter, IsFirstStuck}
 use Rattle.tk_query.specs.Laws.{ExactIsUnique, LooseIsUnique, InOrderIsUnique, ListIsUnique, ExclusiveIsUnique}
@@ -148,26 +148,20 @@ one_list asked xs ys a b = same_lists xs ys a.order b.order (λ z has. (b.each z
 
 pub one_exclusive : ExclusiveIsUnique
 one_exclusive asked writers readers exclusive.Yes exclusive.Yes h k = refl
-one_exclusive asked writers readers exclusive.Yes (exclusive.No p q) h k =
-    absurd (h.1 k.collide.x k.collide.y k.collide.collide)
-one_exclusive asked writers readers exclusive.Yes exclusive.NoPair h k =
-    absurd (k h.0.x h.0.y h.0.pair)
-one_exclusive asked writers readers exclusive.NoPair exclusive.Yes h k =
-    absurd (h k.0.x k.0.y k.0.pair)
+one_exclusive asked writers readers exclusive.Yes (exclusive.No p q) h k = absurd (h.1 p q k.collide)
+one_exclusive asked writers readers exclusive.Yes exclusive.NoPair h k = absurd (k h.0.p h.0.q h.0.pair)
+one_exclusive asked writers readers exclusive.NoPair exclusive.Yes h k = absurd (h k.0.p k.0.q k.0.pair)
 one_exclusive asked writers readers exclusive.NoPair exclusive.NoPair h k = refl
-one_exclusive asked writers readers exclusive.NoPair (exclusive.No p q) h k =
-    absurd (h k.collide.x k.collide.y k.collide.collide.pair)
-one_exclusive asked writers readers (exclusive.No p q) exclusive.NoPair h k =
-    absurd (k h.collide.x h.collide.y h.collide.collide.pair)
-one_exclusive asked writers readers (exclusive.No p q) exclusive.Yes h k =
-    absurd (k.1 h.collide.x h.collide.y h.collide.collide)
+one_exclusive asked writers readers exclusive.NoPair (exclusive.No p q) h k = absurd (h p q k.collide.pair)
+one_exclusive asked writers readers (exclusive.No p q) exclusive.NoPair h k = absurd (k p q h.collide.pair)
+one_exclusive asked writers readers (exclusive.No p q) exclusive.Yes h k = absurd (k.1 p q h.collide)
 one_exclusive asked writers readers (exclusive.No p q) (exclusive.No i j) h k =
     let up : q ≤ j = h.least_second i j k.order k.collide in
     let down : j ≤ q = k.least_second p q h.order h.collide in
     let second : q ≡ j = omega arith in
     let p_low = h.order in
     let i_low = k.order in
-    let left : p ≤ i = h.least_first i (omega arith) (subst (λ n. CollideAt asked writers readers i n) (sym second) k.collide) in
-    let right : i ≤ p = k.least_first p (omega arith) (subst (λ n. CollideAt asked writers readers p n) second h.collide) in
+    let left : p ≤ i = h.least_first i (omega arith) (subst (λ n. Collide asked writers readers i n) (sym second) k.collide) in
+    let right : i ≤ p = k.least_first p (omega arith) (subst (λ n. Collide asked writers readers p n) second h.collide) in
     let first : p ≡ i = omega arith in
     ap (λ n. exclusive.No n q) first ∙ ap (λ n. exclusive.No i n) second

@@ -7,5 +7,5 @@ pub mod RuleLemmas
 pub mod KeyLemmas
 pub mod MaskLemmas
 pub mod AnswerIsUnique
+pub mod EndLemmas
 pub mod ExclusionLemmas
-pub mod SpanKeys

@@ -1,18 +1,12 @@
--- Whether executions that conflict kept away from each other.
+-- Whether executions that conflict kept away from each other. Executions are given by the positions
+-- of their starts.
 use Rattle.std.specs.Prelude.{◌≡◌, ◌≢◌, ℕ, ◌<◌, ◌≤◌, Bool, true, ◌&&◌, ◌||◌}
 use Rattle.tk_record.specs.Selections.{Selected}
 use Rattle.tk_query_conditions.specs.declared.conditions.Condition.{Condition}
 use Rattle.tk_query.specs.declared.answers.Exclusive.{Exclusive}
 use Rattle.tk_query.specs.declared.answers.Exclusive.TheVariants.{Yes, No, NoPair}
-use Rattle.tk_query.specs.declared.execution.Execution.{Execution}
 use Rattle.tk_query.specs.Asked.{fits}
-use Rattle.tk_query.specs.ExecutionSteps.{step_at}
-use Rattle.tk_query.specs.Executions.{IsSpan}
-
--- each of the executions starts at a lower position than the other finishes
-pub record Overlap (x y : Execution) : Type 0 where
-  pub first_starts : x.first < y.last
-  pub second_starts : y.first < x.last
+use Rattle.tk_query.specs.Ends.{Overlap, is_start}
 
 module _ (asked : Selected) (writers readers : Condition) where
   -- a writer's execution: the first condition holds of its start
@@ -23,47 +17,39 @@ module _ (asked : Selected) (writers readers : Condition) where
   abbrev pub is_holder : ℕ → Bool
   is_holder start = fits asked writers start || fits asked readers start
 
-  -- of the executions with these starts one is a writer's, and the other a writer's or a reader's
+  -- of these executions one is a writer's, and the other a writer's or a reader's
   abbrev pub conflict : ℕ → ℕ → Bool
   conflict p q = (is_writer p && is_holder q) || (is_writer q && is_holder p)
 
-  -- Two different executions, each with a start and a finish, conflict.
-  pub record ArePair (x y : Execution) : Type 0 where
-    pub first : IsSpan (step_at asked) x
-    pub second : IsSpan (step_at asked) y
-    pub different : x ≢ y
-    pub conflicts : conflict x.first y.first ≡ true
+  -- two different executions conflict
+  pub record ArePair (p q : ℕ) : Type 0 where
+    pub first : is_start asked p ≡ true
+    pub second : is_start asked q ≡ true
+    pub different : p ≢ q
+    pub conflicts : conflict p q ≡ true
 
   -- some two executions conflict
   pub record SomePair : Type 0 where
-    pub x : Execution
-    pub y : Execution
-    pub pair : ArePair x y
+    pub p : ℕ
+    pub q : ℕ
+    pub pair : ArePair p q
 
   -- two executions conflict and overlap
-  pub record Collide (x y : Execution) : Type 0 where
-    pub pair : ArePair x y
-    pub overlap : Overlap x y
-
-  -- the executions that start at p and at q conflict and overlap
-  pub record CollideAt (p q : ℕ) : Type 0 where
-    pub x : Execution
-    pub y : Execution
-    pub first : x.first ≡ p
-    pub second : y.first ≡ q
-    pub collide : Collide x y
+  pub record Collide (p q : ℕ) : Type 0 where
+    pub pair : ArePair p q
+    pub overlap : Overlap asked p q
 
   -- Of all that conflict and overlap, q is the least start that comes second, and p the least one
   -- that comes before it.
   pub record IsFirstCollision (p q : ℕ) : Type 0 where
     pub order : p < q
-    pub collide : CollideAt p q
-    pub least_second : (i j : ℕ) → i < j → CollideAt i j → q ≤ j
-    pub least_first : (i : ℕ) → i < q → CollideAt i q → p ≤ i
+    pub collide : Collide p q
+    pub least_second : (i j : ℕ) → i < j → Collide i j → q ≤ j
+    pub least_first : (i : ℕ) → i < q → Collide i q → p ≤ i
 
   -- Some executions conflict, and no two that conflict overlap; or the first two that do; or no two
   -- executions conflict.
   abbrev pub IsExclusive : Exclusive → Type 0
-  IsExclusive Yes = SomePair × ((x y : Execution) → Collide x y → ⊥)
+  IsExclusive Yes = SomePair × ((p q : ℕ) → ¬ Collide p q)
   IsExclusive (No p q) = IsFirstCollision p q
-  IsExclusive NoPair = (x y : Execution) → ArePair x y → ⊥
+  IsExclusive NoPair = (p q : ℕ) → ¬ ArePair p q

@@ -1,5 +1,5 @@
 -- What follows from the definitions of the answers and of executions.
-use Rattle.std.specs.Prelude.{◌≡◌, List}
+use Rattle.std.specs.Prelude.{◌≡◌, ℕ, List}
 use Rattle.tk_record.specs.Selections.{Selected}
 use Rattle.tk_query_conditions.specs.declared.conditions.Condition.{Condition}
 use Rattle.tk_query.specs.declared.answers.Exact.{Exact}
@@ -8,6 +8,7 @@ use Rattle.tk_query.specs.declared.answers.Loose.{Loose}
 use Rattle.tk_query.specs.declared.answers.InOrder.{InOrder}
 use Rattle.tk_query.specs.declared.answers.InOrder.TheVariants.{Yes, No}
 use Rattle.tk_query.specs.declared.execution.Execution.{Execution}
+use Rattle.tk_query.specs.Ends.{EndsAt}
 use Rattle.tk_query.specs.ExecutionSteps.{step_at}
 use Rattle.tk_query.specs.Exclusive.{IsExclusive}
 use Rattle.tk_query.specs.Executions.{AreExecutions}
@@ -42,6 +43,10 @@ abbrev pub ListIsUnique : Type 0
 ListIsUnique =
     (asked : Selected) (xs ys : List Execution) →
     AreExecutions (step_at asked) xs → AreExecutions (step_at asked) ys → xs ≡ ys
+
+-- an execution has one end
+abbrev pub EndIsUnique : Type 0
+EndIsUnique = (asked : Selected) (p m n : ℕ) → EndsAt asked p m → EndsAt asked p n → m ≡ n
 
 -- the same events and conditions have one answer whether executions kept apart
 abbrev pub ExclusiveIsUnique : Type 0

@@ -8,7 +8,7 @@ pub mod Matches
 pub mod ExecutionSteps
 pub mod Executions
 pub mod Pairing
-pub mod Finishes
+pub mod Ends
 pub mod Exclusive
 pub mod Fitting
 pub mod AnswerTexts

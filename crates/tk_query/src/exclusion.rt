@@ -1,10 +1,10 @@
 //! Whether executions that conflict kept away from each other.
-ghost use Rattle.std.specs.Prelude.{◌≡◌, ℕ, ◌<◌, ◌+◌, true, false, IfOk, MatchOption, length};
+ghost use Rattle.std.specs.Prelude.{◌≡◌, ℕ, ◌<◌, ◌+◌, true, false, if◌then◌else◌, IfOk, MatchOption, get_or, length};
 ghost use Rattle.tk_query.specs.Exclusive.{IsExclusive};
 ghost use Rattle.tk_query.specs.ExecutionSteps.{step_at};
 ghost use Rattle.tk_query.specs.Fitting.{TellFits};
-ghost use Rattle.tk_query.specs.Finishes.{AreFinishes};
-ghost use Rattle.tk_query.specs.steps.Holders.{AreEnds, HasOther, HavePair, IsAnswerOf, IsFirstMet, MeetsNone, holds_any, is_written, meet};
+ghost use Rattle.tk_query.specs.Ends.{AreEnds, is_start};
+ghost use Rattle.tk_query.specs.steps.Holders.{AreLastEnds, HasOther, HavePair, IsAnswerOf, IsFirstMet, MeetsNone, holds_any, is_written, meet};
 
 use crate::answers::Exclusive;
 use crate::masks::mask;
@@ -14,24 +14,43 @@ use tk_lanes::Flags;
 use tk_query_conditions::Condition;
 use tk_record::Events;
 
-/// Under the position of each start that of its finish, and 0 where no execution starts that
-/// finishes: a finish never stands at position 0.
+/// Under the position of each start the number of entries of the record, and 0 elsewhere.
+fn never_finished(alloc: Global, events: &Events) -> Result<Vec<usize>, AllocError>
+    ensures size { IfOk result (λ ends. length ends.items ≡ length events.now.recorded.entries) }
+    ensures ends { IfOk result (λ ends. (p : ℕ) → get_or ends.items p 0
+        ≡ (if is_start events.now p then length events.now.recorded.entries else 0)) }
+{
+    // For the proof: no event stands past the end of the record.
+    let _flags = events.flags();
+    let len = events.record().len();
+    let starts = fitting(alloc, events, &Condition::Started)?;
+    let mut ends = vec![in alloc; 0; len]?;
+    for start in 0..len {
+        if starts.is_set(start) {
+            ends[start] = len;
+        }
+    }
+    Ok(ends)
+}
+
+/// Under the position of each start the end of its execution, and 0 elsewhere. The end is the
+/// position of its finish or, where it never finishes, the number of entries of the record.
 ///
 /// # Errors
 /// `AllocError` where a request for memory is refused.
-pub fn finishes_of(alloc: Global, events: &Events) -> Result<Vec<usize>, AllocError>
-    ensures finishes { IfOk result (λ finishes. AreFinishes events.now finishes.items) }
+pub fn ends_of(alloc: Global, events: &Events) -> Result<Vec<usize>, AllocError>
+    ensures { IfOk result (λ ends. AreEnds events.now ends.items) }
 {
     // For the proof: no event stands past the end of the record.
     let _flags = events.flags();
     let mut pairing = Pairing::begin(alloc, events)?;
-    let mut finishes = vec![in alloc; 0; events.record().len()]?;
+    let mut ends = never_finished(alloc, events)?;
     'executions: while let Some(execution) = pairing.next(events) {
         if execution.first < execution.last {
-            finishes[execution.first] = execution.last;
+            ends[execution.first] = execution.last;
         }
     }
-    Ok(finishes)
+    Ok(ends)
 }
 
 /// Tells of which of the events the condition holds, with a flag for each entry of the record.
@@ -48,9 +67,9 @@ pub fn fitting(alloc: Global, events: &Events, condition: &Condition) -> Result<
     Ok(flags)
 }
 
-/// The last finishes of the executions that started so far, or 0.
+/// The last ends of the executions that started so far, or 0.
 #[derive(Clone, Copy)]
-struct Ends {
+struct LastEnds {
     writers: usize,
     all: usize,
 }
@@ -58,21 +77,21 @@ struct Ends {
 /// The executions of writers and readers, by the positions of their starts.
 #[derive(Drop)]
 struct Holders {
-    finishes: Vec<usize>,
+    ends: Vec<usize>,
     writers: Flags,
     readers: Flags,
 }
 
 impl Holders {
-    /// Whether an execution that starts at `first`, and has not finished at `second`, conflicts
-    /// with one that starts at `second`.
+    /// Whether an execution that starts at `first`, and ends after `second`, conflicts with one
+    /// that starts at `second`.
     fn meet(&self, first: usize, second: usize) -> bool
-        requires first { first < length self.now.finishes.items }
-        requires second { second < length self.now.finishes.items }
+        requires first { first < length self.now.ends.items }
+        requires second { second < length self.now.ends.items }
         ensures { result ≡ meet self.now first second }
     {
-        second < self.finishes[first]
-            && 0 < self.finishes[second]
+        second < self.ends[first]
+            && 0 < self.ends[second]
             && (self.writers.is_set(first) && self.is_holder(second)
                 || self.writers.is_set(second) && self.is_holder(first))
     }
@@ -83,10 +102,9 @@ impl Holders {
         self.writers.is_set(start) || self.readers.is_set(start)
     }
 
-    /// The first execution that conflicts with one that starts at `second`, and has not finished
-    /// there.
+    /// The first execution that conflicts with one that starts at `second`, and ends after it.
     fn first_met(&self, second: usize) -> Option<usize>
-        requires { second < length self.now.finishes.items }
+        requires { second < length self.now.ends.items }
         ensures { MatchOption result (MeetsNone self.now second) (IsFirstMet self.now second) }
     {
         for first in 0..second {
@@ -97,30 +115,30 @@ impl Holders {
         None
     }
 
-    /// Whether an execution that starts here conflicts with one that has not finished.
-    fn is_held(&self, ends: Ends, start: usize) -> bool
-        requires within { start < length self.now.finishes.items }
-        requires ends { AreEnds self.now start ends }
+    /// Whether an execution that starts here conflicts with one that has not ended.
+    fn is_held(&self, last: LastEnds, start: usize) -> bool
+        requires within { start < length self.now.ends.items }
+        requires last { AreLastEnds self.now start last }
         ensures { result ≡ false → MeetsNone self.now start }
     {
-        0 < self.finishes[start]
-            && (self.writers.is_set(start) && start < ends.all
-                || self.readers.is_set(start) && start < ends.writers)
+        0 < self.ends[start]
+            && (self.writers.is_set(start) && start < last.all
+                || self.readers.is_set(start) && start < last.writers)
     }
 
-    /// The last finishes with those of the execution that starts here, where one does.
-    fn with_start(&self, ends: Ends, start: usize) -> Ends
-        requires within { start < length self.now.finishes.items }
-        requires ends { AreEnds self.now start ends }
-        ensures { AreEnds self.now (start + 1) result }
+    /// The last ends with that of the execution that starts here, where one does.
+    fn with_start(&self, last: LastEnds, start: usize) -> LastEnds
+        requires within { start < length self.now.ends.items }
+        requires last { AreLastEnds self.now start last }
+        ensures { AreLastEnds self.now (start + 1) result }
     {
-        let finish = self.finishes[start];
-        let mut next = ends;
+        let end = self.ends[start];
+        let mut next = last;
         if self.writers.is_set(start) {
-            next.writers = next.writers.max(finish);
+            next.writers = next.writers.max(end);
         }
         if self.is_holder(start) {
-            next.all = next.all.max(finish);
+            next.all = next.all.max(end);
         }
         next
     }
@@ -130,8 +148,8 @@ impl Holders {
         ensures { MatchOption result ((p : ℕ) → is_written self.now p ≡ false)
             (λ p. is_written self.now p ≡ true) }
     {
-        for start in 0..self.finishes.len() {
-            if 0 < self.finishes[start] && self.writers.is_set(start) {
+        for start in 0..self.ends.len() {
+            if 0 < self.ends[start] && self.writers.is_set(start) {
                 return Some(start);
             }
         }
@@ -143,8 +161,8 @@ impl Holders {
         ensures some { result ≡ true → HasOther self.now writer }
         ensures none { result ≡ false → HasOther self.now writer → ⊥ }
     {
-        for other in 0..self.finishes.len() {
-            if other != writer && 0 < self.finishes[other] && self.is_holder(other) {
+        for other in 0..self.ends.len() {
+            if other != writer && 0 < self.ends[other] && self.is_holder(other) {
                 return true;
             }
         }
@@ -163,18 +181,18 @@ impl Holders {
     }
 
     /// Goes over the starts in their order, up to the first that conflicts with an execution that
-    /// has not finished.
+    /// has not ended.
     fn answer(&self) -> Exclusive
         ensures { IsAnswerOf self.now result }
     {
-        let mut ends = Ends { writers: 0, all: 0 };
-        for second in 0..self.finishes.len() {
-            if self.is_held(ends, second) {
+        let mut last = LastEnds { writers: 0, all: 0 };
+        for second in 0..self.ends.len() {
+            if self.is_held(last, second) {
                 if let Some(first) = self.first_met(second) {
                     return Exclusive::No(first, second);
                 }
             }
-            ends = self.with_start(ends, second);
+            last = self.with_start(last, second);
         }
         if self.has_pair() {
             Exclusive::Yes
@@ -188,7 +206,8 @@ impl Holders {
 ///
 /// An execution is a writer's, or a reader's, where that condition holds of its start. Two of them
 /// conflict where one is a writer's and the other a writer's or a reader's; they overlap where each
-/// starts before the other finishes. Skips are left out, and starts that have no finish.
+/// starts before the other ends. An execution that never finishes lasts to the end of the record.
+/// Skips are left out.
 ///
 /// # Errors
 /// `AllocError` where a request for memory is refused.
@@ -201,7 +220,7 @@ pub fn exclusive(
     ensures { IfOk result (IsExclusive events.now writers.now readers.now) }
 {
     let holders = Holders {
-        finishes: finishes_of(alloc, events)?,
+        ends: ends_of(alloc, events)?,
         writers: fitting(alloc, events, writers)?,
         readers: fitting(alloc, events, readers)?,
     };

@@ -1,5 +1,5 @@
 //! What the definitions of the answers imply.
-ghost use Rattle.tk_query.specs.Laws.{ExactIsUnique, LooseIsUnique, InOrderIsUnique, ListIsUnique, ExclusiveIsUnique};
+ghost use Rattle.tk_query.specs.Laws.{ExactIsUnique, LooseIsUnique, InOrderIsUnique, ListIsUnique, EndIsUnique, ExclusiveIsUnique};
 
 /// The same events and the same conditions have one answer.
 pub fn answer_is_unique()
@@ -7,5 +7,6 @@ pub fn answer_is_unique()
     ensures loose { LooseIsUnique }
     ensures in_order { InOrderIsUnique }
     ensures executions { ListIsUnique }
+    ensures ends { EndIsUnique }
     ensures exclusive { ExclusiveIsUnique }
 {}

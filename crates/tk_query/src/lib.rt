@@ -15,7 +15,7 @@ mod pairing;
 mod rules;
 
 pub use answers::{Exact, Exclusive, InOrder, Loose};
-pub use exclusion::{exclusive, finishes_of, fitting};
+pub use exclusion::{ends_of, exclusive, fitting};
 pub use execution::{ENDING_NAME, Ending, Execution, Executions};
 pub use judging::{holds, holds_at};
 pub use masks::select;

@@ -1,16 +1,20 @@
 -- Whether two descriptors conflict over a lock.
-use Rattle.std.proofs.Common.{◌≡◌, ℕ, ◌+◌, ◌<◌, ◌≤◌, arith, Bool, true, false, inl, inr, ⊎_elim, List, length, get_or, Option, Some, None, Bor, refl, sym, ◌∙◌, subst}
+use Rattle.std.proofs.Common.{◌≡◌, ℕ, ◌+◌, ◌<◌, ◌≤◌, arith, Bool, true, false, inl, inr, ⊎_elim, List, length, get_or, Option, Some, None, Bor, refl, sym, ap, ◌∙◌, subst, ◌⊎◌}
 use Rattle.std.specs.Prelude.{◌↔◌, IsTrue, IfSome, MatchOption}
 use Rattle.std.specs.List.{Contains}
 use Rattle.std.proofs.lemmas.Bool.{cases_lt, true≢false}
+use Rattle.std.specs.Option.{option_and_then}
 use Rattle.std.proofs.lemmas.List.{get_or_default}
+use Rattle.std.proofs.lemmas.Option.{same_Some}
+use Rattle.tk_record.specs.Entries.{desc}
 use Rattle.tk_ids.specs.declared.descriptors.Descriptor.{Descriptor}
 use Rattle.tk_record.specs.Recorded.{Recorded}
 use Rattle.tk_ids.specs.declared.locks.LockMode.TheVariants.{ReadWrite}
 use Rattle.tk_ids.specs.declared.locks.Lock.{Lock}
-use Rattle.tk_query_locks.specs.Conflicts.{AreApart, ConflictOver, Holds, IsTestWithoutChild, Uses, Writes, global_name, lock}
+use Rattle.tk_query_locks.specs.Conflicts.{AreApart, ConflictAt, ConflictOver, Holds, IsTestWithoutChild, Uses, Writes, descriptor_at, global_name, key_at, lock}
 use Rattle.tk_query_locks.specs.steps.Conflicts.{IsAtMost, IsDescribed, IsLeastLock}
 use Rattle.tk_query_locks.specs.steps.Parents.{IsUnwritten}
+use Rattle.tk_query_locks.proofs.DescentLemmas.{apart_swap, not_apart_itself}
 
 -- what is used beside a writer is told
 pub used_told : (r : Recorded) (name : List ℕ) (writer other : Descriptor) (told : Bool) → IsDescribed r writer → Writes name writer →
@@ -33,6 +37,28 @@ module _ (r : Recorded) (name : List ℕ) (a b : Descriptor) where
       (λ (is : Writes name a × Uses r name b). absurd (true≢false (sym (one.1 is) ∙ none)))
       (λ (is : Writes name b × Uses r name a). two.1 is)
       over.one_writes
+
+over_swap : (r : Recorded) (name : List ℕ) (a b : Descriptor) → ConflictOver r name a b → ConflictOver r name b a
+over_swap r name a b over = record {
+  apart = apart_swap a.id b.id over.apart;
+  one_writes = ⊎_elim {C = (Writes name b × Uses r name a) ⊎ (Writes name a × Uses r name b)}
+      (λ (one : Writes name a × Uses r name b). inr one)
+      (λ (two : Writes name b × Uses r name a). inl two)
+      over.one_writes;
+}
+
+pub at_swap : (r : Recorded) (name : List ℕ) (p q : ℕ) → ConflictAt r name p q → ConflictAt r name q p
+at_swap r name p q c = record { a = c.b; b = c.a; first = c.second; second = c.first; over = over_swap r name c.a c.b c.over }
+
+-- another entry of the key conflicts too
+pub at_key : (r : Recorded) (name : List ℕ) (p q other : ℕ) → key_at r other ≡ key_at r p → ConflictAt r name p q → ConflictAt r name other q
+at_key r name p q other same c = record { a = c.a; b = c.b; first = ap (option_and_then (desc r)) same ∙ c.first; second = c.second; over = c.over }
+
+-- entries of one descriptor don't conflict
+pub not_itself : (r : Recorded) (name : List ℕ) (p q : ℕ) → ConflictAt r name p q → descriptor_at r p ≡ descriptor_at r q → ⊥
+not_itself r name p q c same =
+    not_apart_itself c.a.id c.b.id
+    (ap (λ (d : Descriptor). d.id) (same_Some c.a c.b (sym c.first ∙ same ∙ c.second))) c.over.apart
 
 -- ---- the least lock
 

@@ -6,4 +6,4 @@ pub mod ConflictLemmas
 pub mod HolderLemmas
 pub mod MeetingLemmas
 pub mod StartLemmas
-pub mod EndlessLemmas
+pub mod NumberLemmas

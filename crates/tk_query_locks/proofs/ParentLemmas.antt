@@ -1,6 +1,7 @@
 -- The descriptors that have a child, and the texts of their ids.
 use Rattle.std.proofs.Common.{◌≡◌, ℕ, zero, suc, ◌+◌, ◌-◌, ◌<◌, ◌≤◌, ◌⊎◌, inl, inr, ⊎_elim, Bool, true, false, cond, ◌&&◌, List, [], ◌∷◌, ◌++◌, length, get_or, Option, Some, None, nat_eq, refl, sym, ap, ◌∙◌, subst, arith, eqb-true}
 use Rattle.std.specs.Prelude.{◌==◌, if◌then◌else◌, slice_get}
+use Rattle.std.specs.List.{Contains}
 use Rattle.std.specs.Option.{option_or}
 use Rattle.std.specs.Cmp.Lexicographic.{bytes_decides, pointwise}
 use Rattle.std.proofs.lemmas.Bool.{cases_lt, true≢false}
@@ -209,16 +210,17 @@ no_locks r key d is by =
     (subst (λ (e : Entry). is_lawful e.event.kind e.event.payload ≡ true) (place_is r.entries by.position by.entry by.stands)
     (is.lawful by.position by.entry (within_list r.entries by.position by.entry by.stands)))
 
-none_written : (name : List ℕ) (d : Descriptor) → d.locks ≡ [] → ¬ Writes name d
-none_written name d none has = absurd (let lt = has.1 in let size = ap length none in omega (arith, lt, size))
+-- a descriptor with a lock is static
+pub lock_within : (r : Recorded) (key : ℕ) (d : Descriptor) → IsRecord r → desc r key ≡ Some d → {k : Lock} → Contains d.locks k → key < length r.table
+lock_within r key d is described has = ⊎_elim {C = key < length r.table}
+    (λ (static : slice_get r.table key ≡ Some d). within_list r.table key d static)
+    (λ (by : IsRegistered r.entries key d). absurd (let lt = has.1 in let size = ap length (no_locks r key d is by) in omega arith))
+    (static_or_registered r key d described)
 
 -- where no static descriptor holds a lock for writing, none does
 pub unwritten : (r : Recorded) (name : List ℕ) (count : ℕ) → IsRecord r →
     ((key : ℕ) (d : Descriptor) → key < count → desc r key ≡ Some d → ¬ Writes name d) →
     length r.table ≤ count → IsUnwritten r name
-unwritten r name count is none all key d described = ⊎_elim {C = ¬ Writes name d}
-    (λ (static : slice_get r.table key ≡ Some d).
-    let within = within_list r.table key d static in
-    none key d (omega arith) described)
-    (λ (by : IsRegistered r.entries key d). none_written name d (no_locks r key d is by))
-    (static_or_registered r key d described)
+unwritten r name count is none all key d described writes =
+    let within = lock_within r key d is described writes in
+    none key d (omega arith) described writes

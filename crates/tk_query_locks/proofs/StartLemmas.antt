@@ -1,12 +1,8 @@
 -- Lists of starts, and numbers of locks.
-use Rattle.std.proofs.Common.{◌≡◌, ℕ, zero, suc, ◌<◌, ◌≤◌, ⊎_elim, Bool, true, false, cond, List, [], ◌∷◌, get_or, length, set, Some, None, refl, sym, ap, ◌∙◌, subst, arith}
-use Rattle.std.specs.Prelude.{bytes_eq, string_bytes, unwrap_or, nat_lt}
-use Rattle.std.specs.List.{Contains, filter, position, position_or_len}
-use Rattle.std.proofs.lemmas.Bool.{cases_eq, ltb-true, true≢false}
+use Rattle.std.proofs.Common.{◌≡◌, ℕ, zero, suc, ◌<◌, ⊎_elim, Bool, true, false, cond, List, [], ◌∷◌, get_or, length, set, refl, sym, ap, ◌∙◌, subst, arith}
+use Rattle.std.specs.List.{Contains, filter}
+use Rattle.std.proofs.lemmas.Bool.{cases_eq, true≢false}
 use Rattle.std.proofs.lemmas.List.{get_or-set_same, get_or-set_other}
-use Rattle.indexmap.specs.IndexSet.{index_set_len}
-use Rattle.tk_query_locks.specs.declared.lock_numbers.LockNumbers.{LockNumbers}
-use Rattle.tk_query_locks.specs.steps.Conflicts.{number_of}
 
 -- one element more, in front
 later : (x : ℕ) (xs : List ℕ) (p : ℕ) → Contains xs p → Contains (x ∷ xs) p
@@ -36,15 +32,3 @@ list_changed lists number new P within kept n p is has = ⊎_elim {C = Contains 
     (kept p is (subst (λ k. Contains (get_or lists k []) p) same has)))
     (λ (other : n ≡ number → ⊥). subst (λ l. Contains l p) (sym (get_or-set_other lists number n new [] other)) has)
     (cases_eq n number)
-
-position_within : {A : Type 0} (test : A → Bool) (xs : List A) → unwrap_or (position test xs) (length xs) ≤ length xs
-position_within test xs = by (nat_lt (position_or_len test xs) (length xs)) refl
-  where
-    by : (b : Bool) → nat_lt (position_or_len test xs) (length xs) ≡ b → unwrap_or (cond b (Some (position_or_len test xs)) None) (length xs) ≤ length xs
-    by true below = let lt = ltb-true (position_or_len test xs) (length xs) below in omega arith
-    by false past = omega arith
-
--- a number is at most that of the names that no descriptor holds for writing
-pub number_within : (numbers : LockNumbers) (name : List ℕ) → number_of numbers name ≤ index_set_len numbers.names
-unfolding number_of
-number_within numbers name = position_within (λ k. bytes_eq name (string_bytes k)) numbers.names.keys

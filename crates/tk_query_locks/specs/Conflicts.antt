@@ -1,6 +1,8 @@
 -- Which descriptors of a record conflict over which locks.
-use Rattle.std.specs.Prelude.{◌≡◌, ◌⊎◌, ℕ, true, List, [], ◌∷◌, ◌++◌, Some, codes}
+use Rattle.std.specs.Prelude.{◌≡◌, ◌⊎◌, ℕ, true, List, [], ◌∷◌, ◌++◌, Option, Some, codes}
+use Rattle.std.specs.Prelude.{map, slice_get}
 use Rattle.std.specs.List.{Contains}
+use Rattle.std.specs.Option.{option_and_then}
 use Rattle.tk_ids.specs.declared.descriptors.Descriptor.{Descriptor}
 use Rattle.tk_ids.specs.DTypes.{is_test}
 use Rattle.tk_ids.specs.IdText.{SegmentView}
@@ -56,3 +58,19 @@ Uses r name d = Holds name d ⊎ ((name ≡ global_name) × IsTestWithoutChild r
 pub record ConflictOver (r : Recorded) (name : List ℕ) (a b : Descriptor) : Type 0 where
   pub apart : AreApart a.id b.id
   pub one_writes : (Writes name a × Uses r name b) ⊎ (Writes name b × Uses r name a)
+
+-- the key of the entry at a position
+abbrev pub key_at : Recorded → ℕ → Option ℕ
+key_at r p = slice_get (map (λ e. e.event.key) r.entries) p
+
+-- the descriptor of the entry at a position
+abbrev pub descriptor_at : Recorded → ℕ → Option Descriptor
+descriptor_at r p = option_and_then (desc r) (key_at r p)
+
+-- the descriptors of the entries at two positions conflict over the lock of this name
+pub record ConflictAt (r : Recorded) (name : List ℕ) (p q : ℕ) : Type 0 where
+  pub a : Descriptor
+  pub b : Descriptor
+  pub first : descriptor_at r p ≡ Some a
+  pub second : descriptor_at r q ≡ Some b
+  pub over : ConflictOver r name a b

@@ -1,4 +1,4 @@
 pub mod Parents
 pub mod Conflicts
-pub mod Finishes
+pub mod LockNumbers
 pub mod Holders

@@ -1,23 +1,23 @@
 //! Executions that conflict over a lock and overlap.
-ghost use Rattle.std.specs.Prelude.{◌≡◌, ◌↔◌, ◌+◌, ◌<◌, ℕ, List, IsTrue, IfOk, OnOk, MatchOption, false, get_or, length};
+ghost use Rattle.std.specs.Prelude.{◌≡◌, ◌↔◌, ◌+◌, ◌<◌, ℕ, List, IsTrue, IfOk, OnOk, MatchOption, Some, [], true, false, get_or, length};
 ghost use Rattle.std.specs.Option.{option_copied};
 ghost use Rattle.std.specs.List.{Contains};
-ghost use Rattle.tk_query_locks.specs.Conflicts.{Uses, Writes};
-ghost use Rattle.tk_query.specs.steps.Holders.{AreFinishes};
-ghost use Rattle.tk_query_locks.specs.steps.Finishes.{AreEndless};
-ghost use Rattle.tk_query_locks.specs.steps.Conflicts.{descriptor_at};
-ghost use Rattle.tk_query_locks.specs.steps.Holders.{AreListed, ConflictAt, HaveLists, IsCollision, IsFirstMet, IsLeastAt, IsMeeting, Keeps, LockIsListed, LockMeetsNone, Meet, MeetsNone, finish_of, under};
+ghost use Rattle.tk_query_locks.specs.Conflicts.{ConflictAt, IsTestWithoutChild, descriptor_at, global_name};
+ghost use Rattle.tk_query.specs.Ends.{AreEnds};
+ghost use Rattle.tk_ids.specs.declared.descriptors.Descriptor.{Descriptor};
+ghost use Rattle.tk_query_locks.specs.steps.Parents.{IsUnwritten};
+ghost use Rattle.tk_query_locks.specs.steps.Holders.{AreForgotten, AreLasting, AreListed, AreReady, HaveAllLists, HaveLists, IsCollision, IsFirstMet, IsLeastAt, IsMeeting, Keeps, LockIsListed, LockMeetsNone, Meet, MeetsNone, Repeats, end_of, locks_at};
 
-use crate::conflicts::{Conflicts, GLOBAL};
-use crate::finishes::endless;
-use crate::lock_numbers::LockNumbers;
-use crate::start_lists::{StartLists, finish_at};
+use crate::conflicts::Conflicts;
+use crate::lock_numbers::{LockNumbers, NumberedLock, NumberedLocks};
+use crate::start_lists::{StartLists, end_at};
+use indexmap::IndexSet;
 use std::alloc::{AllocError, Global};
-use tk_ids::{Descriptor, Lock, LockMode, Text};
-use tk_query::finishes_of;
+use tk_ids::{Descriptor, LockMode, Text};
+use tk_query::ends_of;
 use tk_record::Events;
 
-/// The starts of executions that may not have finished: those that hold a lock for writing, and the
+/// The starts of executions that may not have ended: those that hold a lock for writing, and the
 /// others that use it, under the lock's number.
 #[derive(Drop)]
 struct Running {
@@ -25,51 +25,67 @@ struct Running {
     readers: StartLists,
 }
 
+/// Lets each execution last to the end of the record.
+fn forget_ends(ends: &mut [usize])
+    ensures { AreForgotten ends.old ends.new }
+{
+    let len = ends.len();
+    for start in 0..len {
+        if 0 < ends[start] {
+            ends[start] = len;
+        }
+    }
+}
+
 /// The executions of a record, which may conflict over locks.
 #[derive(Drop)]
 pub(crate) struct Holders<'r> {
     conflicts: Conflicts<'r>,
     numbers: LockNumbers,
-    // Under the position of each start that of its finish, and 0 elsewhere.
-    finishes: Vec<usize>,
+    // Under each static key the locks of its descriptor that have a number.
+    locks: Vec<NumberedLocks>,
+    // Under the position of each start the end of its execution, and 0 elsewhere.
+    ends: Vec<usize>,
 }
 
 impl<'r> Holders<'r> {
     /// Takes the executions of the events.
     pub(crate) fn of(alloc: Global, events: &Events<'r>) -> Result<Holders<'r>, AllocError>
         ensures conflicts { IfOk result (λ h. h.conflicts ≡ events.now.recorded) }
-        ensures finishes { IfOk result (λ h. AreFinishes events.now h.finishes.items) }
+        ensures ready { IfOk result AreReady }
+        ensures ends { IfOk result (λ h. AreEnds events.now h.ends.items) }
     {
         let record = events.record();
+        let numbers = LockNumbers::of(alloc, record)?;
+        let locks = numbers.lists(alloc, record)?;
         Ok(Holders {
             conflicts: Conflicts::of(alloc, record)?,
-            numbers: LockNumbers::of(alloc, record.table())?,
-            finishes: finishes_of(alloc, events)?,
+            numbers,
+            locks,
+            ends: ends_of(alloc, events)?,
         })
     }
 
-    /// Lets each execution run past the end of the record, so that all overlap.
-    pub(crate) fn forget_finishes(&mut self, alloc: Global) -> Result<(), AllocError>
+    /// Lets each execution last to the end of the record, so that all overlap.
+    pub(crate) fn forget_ends(&mut self)
         ensures conflicts { self.new.conflicts ≡ self.old.conflicts }
-        ensures finishes { OnOk result (AreEndless self.old.conflicts
-            self.old.finishes.items self.new.finishes.items) }
+        ensures ready { AreReady self.old → AreReady self.new }
+        ensures ends { AreForgotten self.old.ends.items self.new.ends.items }
     {
-        let finishes = endless(alloc, self.conflicts.record(), &self.finishes)?;
-        self.finishes = finishes;
-        Ok(())
+        forget_ends(&mut self.ends);
     }
 
-    fn finish(&self, start: usize) -> usize
-        ensures { result ≡ finish_of self.now start }
+    fn end(&self, start: usize) -> usize
+        ensures { result ≡ end_of self.now start }
     {
-        finish_at(&self.finishes, start)
+        end_at(&self.ends, start)
     }
 
-    /// Whether an execution starts at `start` that finishes after a position.
+    /// Whether an execution starts at `start` that ends after a position.
     fn runs_at(&self, start: usize, position: usize) -> bool
-        ensures { IsTrue result ↔ (position < finish_of self.now start) }
+        ensures { IsTrue result ↔ (position < end_of self.now start) }
     {
-        position < self.finish(start)
+        position < self.end(start)
     }
 
     /// The descriptor of the entry at a position.
@@ -79,6 +95,19 @@ impl<'r> Holders<'r> {
         let record = self.conflicts.record();
         let key = record.keys().get(position)?;
         record.describe(*key)
+    }
+
+    /// The numbered locks of the descriptor of the entry at a position.
+    fn locks_at(&self, position: usize) -> &[NumberedLock]
+        ensures { result.now ≡ locks_at self.now position }
+    {
+        let Some(key) = self.conflicts.record().keys().get(position) else {
+            return &[];
+        };
+        match self.locks.get(*key as usize) {
+            Some(locks) => locks.as_slice(),
+            None => &[],
+        }
     }
 
     /// The least name of a lock over which the descriptors of the entries at two positions
@@ -93,8 +122,8 @@ impl<'r> Holders<'r> {
         self.conflicts.least_lock(a, b)
     }
 
-    /// Whether an execution that starts at `first`, and has not finished at `second`, conflicts
-    /// with one that starts at `second`.
+    /// Whether an execution that starts at `first`, and ends after `second`, conflicts with one
+    /// that starts at `second`.
     fn meet(&self, first: usize, second: usize) -> bool
         ensures { IsTrue result ↔ Meet self.now first second }
     {
@@ -120,8 +149,7 @@ impl<'r> Holders<'r> {
         false
     }
 
-    /// The first execution that conflicts with one that starts at `second`, and has not finished
-    /// there.
+    /// The first execution that conflicts with one that starts at `second`, and ends after it.
     fn first_met(&self, second: usize) -> Option<usize>
         ensures { MatchOption result (MeetsNone self.now second) (IsFirstMet self.now second) }
     {
@@ -134,43 +162,52 @@ impl<'r> Holders<'r> {
     }
 
     /// Whether an execution in the lists of a lock meets one that starts at `second` and holds it.
-    fn is_lock_held(&self, running: &Running, lock: &Lock, second: usize) -> bool
-        requires { HaveLists self.now running.now }
-        ensures { result ≡ false → LockMeetsNone self.now running.now lock.now second }
+    fn is_lock_held(&self, running: &Running, lock: NumberedLock, second: usize) -> bool
+        requires { HaveLists running.now lock.number }
+        ensures { result ≡ false → LockMeetsNone self.now running.now lock second }
     {
-        let number = self.numbers.number(lock.name.as_str());
-        if self.some_meets(running.writers.starts(number), second) {
+        if self.some_meets(running.writers.starts(lock.number), second) {
             return true;
         }
         match lock.mode {
             LockMode::Read => false,
-            LockMode::ReadWrite => self.some_meets(running.readers.starts(number), second),
+            LockMode::ReadWrite => self.some_meets(running.readers.starts(lock.number), second),
         }
     }
 
-    /// Whether an execution that has not finished meets one that starts at `second`.
+    /// Whether the descriptor of the entry at a position uses `global` as a test without a child.
+    fn uses_global(&self, position: usize) -> bool
+        ensures { result ≡ false → (d : Descriptor) →
+            descriptor_at self.now.conflicts position ≡ Some d →
+            IsTestWithoutChild self.now.conflicts d →
+            IsUnwritten self.now.conflicts global_name }
+    {
+        match self.descriptor(position) {
+            Some(descriptor) => self.conflicts.uses_global(descriptor),
+            None => false,
+        }
+    }
+
+    /// Whether an execution that has not ended meets one that starts at `second`.
     fn is_held(&self, running: &Running, second: usize) -> bool
-        requires { AreListed self.now second running.now }
+        requires ready { AreReady self.now }
+        requires listed { AreListed self.now second running.now }
         ensures { result ≡ false → MeetsNone self.now second }
     {
-        let Some(descriptor) = self.descriptor(second) else {
-            return false;
-        };
-        for lock in descriptor.locks.as_slice() {
-            if self.is_lock_held(running, lock, second) {
+        for lock in self.locks_at(second) {
+            if self.is_lock_held(running, *lock, second) {
                 return true;
             }
         }
-        if !self.conflicts.uses_global(descriptor) {
-            return false;
-        }
-        self.some_meets(running.writers.starts(self.numbers.number(GLOBAL)), second)
+        self.uses_global(second)
+            && self.some_meets(running.writers.starts(self.numbers.global()), second)
     }
 
-    /// The first execution that conflicts with one that starts at `second`, and has not finished
-    /// there. Only where one in the lists does are all that start before gone through.
+    /// The first execution that conflicts with one that starts at `second`, and ends after it. Only
+    /// where one in the lists does are all that start before gone through.
     fn met_at(&self, running: &Running, second: usize) -> Option<usize>
-        requires { AreListed self.now second running.now }
+        requires ready { AreReady self.now }
+        requires listed { AreListed self.now second running.now }
         ensures { MatchOption result (MeetsNone self.now second) (IsFirstMet self.now second) }
     {
         if !self.is_held(running, second) {
@@ -180,86 +217,130 @@ impl<'r> Holders<'r> {
     }
 
     /// Adds the execution that starts at `second` to the lists of a lock that it holds.
-    fn take(&self, running: &mut Running, lock: &Lock, second: usize) -> Result<(), AllocError>
-        requires { HaveLists self.now running.old }
+    fn take(
+        &self,
+        running: &mut Running,
+        lock: NumberedLock,
+        second: usize,
+    ) -> Result<(), AllocError>
+        requires { HaveLists running.old lock.number }
         ensures kept { OnOk result (Keeps self.now second running.old running.new) }
-        ensures added { OnOk result (LockIsListed self.now running.new lock.now second) }
+        ensures added { OnOk result (LockIsListed running.new lock second) }
     {
         match lock.mode {
-            LockMode::Read => self.add_reader(running, lock.name.as_str(), second),
-            LockMode::ReadWrite => self.add_writer(running, lock.name.as_str(), second),
+            LockMode::Read => self.add_reader(running, lock.number, second),
+            LockMode::ReadWrite => self.add_writer(running, lock.number, second),
         }
     }
 
-    /// Adds the execution that starts at `second` to those that use a lock, and forgets the finished
+    /// Adds the execution that starts at `second` to those that use a lock, and forgets the ended
     /// ones that hold it for writing.
-    fn add_reader(&self, running: &mut Running, name: &str, second: usize) -> Result<(), AllocError>
-        requires { HaveLists self.now running.old }
+    fn add_reader(
+        &self,
+        running: &mut Running,
+        number: usize,
+        second: usize,
+    ) -> Result<(), AllocError>
+        requires { HaveLists running.old number }
         ensures kept { OnOk result (Keeps self.now second running.old running.new) }
-        ensures added { OnOk result
-            (Contains (under self.now running.new.readers name.now) second) }
+        ensures added { OnOk result (Contains (get_or running.new.readers number []) second) }
     {
-        let number = self.numbers.number(name);
-        running.writers.forget(number, &self.finishes, second);
-        running.readers.push(number, second)?;
+        running.writers.forget(number, &self.ends, second);
+        running.readers.push(number, second, &self.ends)?;
         Ok(())
     }
 
     /// Adds the execution that starts at `second` to those that hold a lock for writing, and forgets
-    /// the finished ones that hold or use it.
-    fn add_writer(&self, running: &mut Running, name: &str, second: usize) -> Result<(), AllocError>
-        requires { HaveLists self.now running.old }
+    /// the ended ones that hold or use it.
+    fn add_writer(
+        &self,
+        running: &mut Running,
+        number: usize,
+        second: usize,
+    ) -> Result<(), AllocError>
+        requires { HaveLists running.old number }
         ensures kept { OnOk result (Keeps self.now second running.old running.new) }
-        ensures added { OnOk result
-            (Contains (under self.now running.new.writers name.now) second) }
+        ensures added { OnOk result (Contains (get_or running.new.writers number []) second) }
     {
-        let number = self.numbers.number(name);
-        running.writers.forget(number, &self.finishes, second);
-        running.readers.forget(number, &self.finishes, second);
-        running.writers.push(number, second)?;
+        running.writers.forget(number, &self.ends, second);
+        running.readers.forget(number, &self.ends, second);
+        running.writers.push(number, second, &self.ends)?;
         Ok(())
     }
 
     /// Adds the execution that starts at `second` to the lists of the locks that it uses.
     fn start(&self, running: &mut Running, second: usize) -> Result<(), AllocError>
-        requires { AreListed self.now second running.old }
+        requires ready { AreReady self.now }
+        requires listed { AreListed self.now second running.old }
+        requires within { second < length self.now.ends.items }
         ensures { OnOk result (AreListed self.now (second + 1) running.new) }
     {
-        let Some(descriptor) = self.descriptor(second) else {
-            return Ok(());
-        };
-        for lock in descriptor.locks.as_slice() {
-            self.take(running, lock, second)?;
+        for lock in self.locks_at(second) {
+            self.take(running, *lock, second)?;
         }
-        if self.conflicts.uses_global(descriptor) {
-            return self.add_reader(running, GLOBAL, second);
+        if self.uses_global(second) {
+            return self.add_reader(running, self.numbers.global(), second);
+        }
+        Ok(())
+    }
+
+    /// Whether the key that starts at `second` is among those of which an execution that started
+    /// before lasts to the end.
+    fn repeats(&self, lasting: &IndexSet<u32>, second: usize) -> bool
+        requires { AreLasting self.now second lasting.now }
+        ensures { result ≡ true → Repeats self.now second }
+    {
+        match self.conflicts.record().keys().get(second) {
+            Some(key) => lasting.contains(key),
+            None => false,
+        }
+    }
+
+    /// Adds the key that starts at `second`, where that execution lasts to the end.
+    fn note(&self, lasting: &mut IndexSet<u32>, second: usize) -> Result<(), AllocError>
+        requires { AreLasting self.now second lasting.old }
+        ensures { OnOk result (AreLasting self.now (second + 1) lasting.new) }
+    {
+        if self.end(second) < self.ends.len() {
+            return Ok(());
+        }
+        if let Some(key) = self.conflicts.record().keys().get(second) {
+            lasting.insert(*key)?;
         }
         Ok(())
     }
 
     fn none_running(&self, alloc: Global) -> Result<Running, AllocError>
-        ensures { IfOk result (λ running. HaveLists self.now running) }
+        ensures { IfOk result (HaveAllLists self.now) }
     {
+        let count = self.numbers.count();
         Ok(Running {
-            writers: StartLists::new(alloc, self.numbers.bound())?,
-            readers: StartLists::new(alloc, self.numbers.bound())?,
+            writers: StartLists::new(alloc, count)?,
+            readers: StartLists::new(alloc, count)?,
         })
     }
 
     /// Goes over the starts in their order, up to the first that conflicts with an execution that
-    /// has not finished.
+    /// has not ended. A key of which an execution lasts to the end need not start again: whom it
+    /// would meet has met that one.
     pub(crate) fn first_meeting(&self, alloc: Global) -> Result<Option<(usize, usize)>, AllocError>
+        requires { AreReady self.now }
         ensures { IfOk result (IsMeeting self.now) }
     {
         let mut running = self.none_running(alloc)?;
-        for second in 0..self.finishes.len() {
+        let mut lasting = IndexSet::new(alloc);
+        for second in 0..self.ends.len() {
             if !self.runs_at(second, 0) {
+                continue;
+            }
+            if self.repeats(&lasting, second) {
                 continue;
             }
             if let Some(first) = self.met_at(&running, second) {
                 return Ok(Some((first, second)));
             }
             self.start(&mut running, second)?;
+            self.note(&mut lasting, second)?;
         }
         Ok(None)
     }
@@ -270,6 +351,7 @@ impl<'r> Holders<'r> {
         &self,
         alloc: Global,
     ) -> Result<Option<(usize, usize, Text)>, AllocError>
+        requires { AreReady self.now }
         ensures { IfOk result (IsCollision self.now) }
     {
         let Some((first, second)) = self.first_meeting(alloc)? else {

@@ -4,7 +4,6 @@
 mod answers;
 mod conflicts;
 mod descent;
-mod finishes;
 mod holders;
 pub mod laws;
 mod lock_numbers;

@@ -13,21 +13,19 @@ use tk_record::Events;
 /// Two executions conflict over a lock that both of their descriptors hold, one of them for writing,
 /// unless the id of one begins with the other's segments. An execution whose descriptor holds the
 /// lock `global` for writing also conflicts, over it, with each test of which no descriptor is a
-/// child. Two executions overlap where each starts before the other finishes. Skips are left out,
-/// and starts that have no finish.
+/// child. Two executions overlap where each starts before the other ends. An execution that never
+/// finishes lasts to the end of the record. Skips are left out.
 ///
 /// # Errors
 /// `AllocError` where a request for memory is refused.
 pub fn locks(alloc: Global, events: &Events) -> Result<LockAnswer, AllocError>
     ensures { IfOk result (IsLockAnswer events.now) }
 {
-    // For the proof: no event stands past the end of the record.
-    let _flags = events.flags();
     let mut holders = Holders::of(alloc, events)?;
     if let Some((first, second, name)) = holders.first_collision(alloc)? {
         return Ok(LockAnswer::No(first, second, name));
     }
-    holders.forget_finishes(alloc)?;
+    holders.forget_ends();
     let meeting = holders.first_meeting(alloc)?;
     if meeting.is_some() {
         Ok(LockAnswer::Yes)

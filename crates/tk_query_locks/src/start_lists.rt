@@ -5,17 +5,19 @@ ghost use Rattle.std.specs.List.{Contains};
 use std::alloc::{AllocError, Global};
 use std::marker::Model;
 
-/// The finish of the execution that starts at a position, or 0.
-pub(crate) fn finish_at(finishes: &[usize], start: usize) -> usize
-    ensures { result ≡ get_or finishes.now start 0 }
+/// The end of the execution that starts at a position, or 0.
+pub(crate) fn end_at(ends: &[usize], start: usize) -> usize
+    ensures { result ≡ get_or ends.now start 0 }
 {
-    finishes.get(start).copied().unwrap_or(0)
+    ends.get(start).copied().unwrap_or(0)
 }
 
 /// The positions of starts.
 #[derive(Drop)]
 struct Starts {
     positions: Vec<usize>,
+    // How many there may be before those of ended executions are forgotten.
+    limit: usize,
 }
 
 impl Model for Starts {
@@ -32,6 +34,7 @@ impl Starts {
     {
         Starts {
             positions: Vec::new(alloc),
+            limit: 0,
         }
     }
 
@@ -41,21 +44,29 @@ impl Starts {
         self.positions.as_slice()
     }
 
-    fn push(&mut self, start: usize) -> Result<(), AllocError>
-        ensures kept { OnOk result ((p : ℕ) → Contains self.old p → Contains self.new p) }
+    /// Adds a start. Those of executions that end up to it are forgotten whenever twice as many
+    /// stand here as were left the last time.
+    fn push(&mut self, start: usize, ends: &[usize]) -> Result<(), AllocError>
+        ensures kept { OnOk result ((p : ℕ) → start < get_or ends.now p 0 →
+            Contains self.old p → Contains self.new p) }
         ensures added { OnOk result (Contains self.new start) }
     {
+        if self.limit <= self.positions.len() {
+            self.forget(ends, start);
+            let left = self.positions.len();
+            self.limit = left.saturating_add(left).saturating_add(1);
+        }
         self.positions.push(start)?;
         Ok(())
     }
 
-    /// Forgets the starts of executions that finish up to a position.
-    fn forget(&mut self, finishes: &[usize], position: usize)
-        ensures { (p : ℕ) → position < get_or finishes.now p 0 →
+    /// Forgets the starts of executions that end up to a position.
+    fn forget(&mut self, ends: &[usize], position: usize)
+        ensures { (p : ℕ) → position < get_or ends.now p 0 →
             Contains self.old p → Contains self.new p }
     {
         self.positions
-            .retain(|start| position < finish_at(finishes, *start));
+            .retain(|start| position < end_at(ends, *start));
     }
 }
 
@@ -94,24 +105,29 @@ impl StartLists {
     }
 
     /// Adds a start under a number.
-    pub(crate) fn push(&mut self, number: usize, start: usize) -> Result<(), AllocError>
+    pub(crate) fn push(
+        &mut self,
+        number: usize,
+        start: usize,
+        ends: &[usize],
+    ) -> Result<(), AllocError>
         requires { number < length self.old }
-        ensures kept { OnOk result ((n p : ℕ) →
+        ensures kept { OnOk result ((n p : ℕ) → start < get_or ends.now p 0 →
             Contains (get_or self.old n []) p → Contains (get_or self.new n []) p) }
         ensures added { OnOk result (Contains (get_or self.new number []) start) }
         ensures size { length self.new ≡ length self.old }
     {
-        self.lists[number].push(start)?;
+        self.lists[number].push(start, ends)?;
         Ok(())
     }
 
-    /// Forgets the starts under a number of executions that finish up to a position.
-    pub(crate) fn forget(&mut self, number: usize, finishes: &[usize], position: usize)
+    /// Forgets the starts under a number of executions that end up to a position.
+    pub(crate) fn forget(&mut self, number: usize, ends: &[usize], position: usize)
         requires { number < length self.old }
-        ensures kept { (n p : ℕ) → position < get_or finishes.now p 0 →
+        ensures kept { (n p : ℕ) → position < get_or ends.now p 0 →
             Contains (get_or self.old n []) p → Contains (get_or self.new n []) p }
         ensures size { length self.new ≡ length self.old }
     {
-        self.lists[number].forget(finishes, position);
+        self.lists[number].forget(ends, position);
     }
 }

@@ -1,8 +1,8 @@
 -- Candidates, and the positions of the events that come nearest.
 use Rattle.std.proofs.Common.{◌≡◌, ℕ, zero, suc, ◌+◌, ◌<◌, ◌≤◌, ◌⊎◌, min, Bool, true, false, List, [], ◌∷◌, length, get_or, map, take, Option, Some, None, MatchOption, refl, sym, ap, ◌∙◌, subst, arith, inl, inr, ⊎_elim}
-use Rattle.std.specs.Prelude.{if◌then◌else◌, ◌&&◌, ◌==◌, nat_lt}
+use Rattle.std.specs.Prelude.{if◌then◌else◌}
 use Rattle.std.specs.List.{slice_get}
-use Rattle.std.proofs.lemmas.Bool.{and_parts, cases_lt, eqb-true, ltb-false, ltb-true, or_cases, true≢false}
+use Rattle.std.proofs.lemmas.Bool.{cases_lt, ltb-false, ltb-true, true≢false}
 use Rattle.std.proofs.lemmas.List.{take-map}
 use Rattle.std.proofs.lemmas.Option.{none-some}
 use Rattle.tk_base.proofs.Lists.{get_below}
@@ -14,7 +14,7 @@ use Rattle.tk_query_conditions.specs.Cond.{Cond}
 use Rattle.tk_query_nearest.specs.Parts.{distance, missing}
 use Rattle.tk_query.proofs.AskedLemmas.{AreFlags, asked_set, asked_clear}
 use Rattle.tk_query_nearest.specs.declared.candidates.Candidate.{Candidate}
-use Rattle.tk_query_nearest.specs.steps.Candidates.{admits, counted_to, is_nearer, inserted}
+use Rattle.tk_query_nearest.specs.steps.{admits, counted_to, is_nearer, inserted}
 use Rattle.tk_query_nearest.specs.declared.parts.TheConstants.{MAX_DISTANCE}
 use Rattle.tk_query.specs.Asked.{event_at}
 use Rattle.tk_query_nearest.specs.Nearness.{IsAskedFrom, IsNearest, IsNearer, distance_at, distance_of}
@@ -108,52 +108,6 @@ distance_within asked c at = by_event (event_at asked.kept at)
       where
         capped : (n : ℕ) → min n MAX_DISTANCE ≤ MAX_DISTANCE
         capped n = omega arith
-
--- what comes nearer lacks no more
-nearer_lacks : (a b : Candidate) → is_nearer a b ≡ true → a.distance ≤ b.distance
-nearer_lacks a b e = ⊎_elim {C = a.distance ≤ b.distance}
-    (λ less. let lt = ltb-true a.distance b.distance less in omega arith)
-    (λ same. let eq = eqb-true a.distance b.distance
-    (and_parts (a.distance == b.distance) (nat_lt a.position b.position) same).0 in omega arith)
-    (or_cases (nat_lt a.distance b.distance)
-    (a.distance == b.distance && nat_lt a.position b.position) e)
-
-ranked_lacks : (d : ℕ → ℕ) (p q : ℕ) → Near d p q → d p ≤ d q
-ranked_lacks d p q h = ⊎_elim {C = d p ≤ d q} (λ (lt : d p < d q). omega arith)
-    (λ (same : (d p ≡ d q) × (p < q)). let eq = same.0 in omega arith) h
-
--- no more parts are counted than can be missing
-counted_within : (d : ℕ → ℕ) (list : List Candidate) → Measured d list
-    → ((x : ℕ) → d x ≤ MAX_DISTANCE) → counted_to list ≤ MAX_DISTANCE
-counted_within d [] measured within = omega arith
-counted_within d (a ∷ []) measured within = omega arith
-counted_within d (a ∷ b ∷ []) measured within = omega arith
-counted_within d (a ∷ b ∷ c ∷ list) (_, (_, (is, _))) within =
-    let le = within c.position in
-    omega arith
-
--- no more parts are counted after one more candidate
-pub counted_less : (d : ℕ → ℕ) (old : List Candidate) (a : Candidate) (new : List Candidate)
-    → new ≡ take 3 (inserted a old) → Measured d new → Measured d old → Ranked d (positions old)
-    → ((x : ℕ) → d x ≤ MAX_DISTANCE) → counted_to new ≤ counted_to old
-counted_less d [] a new is now before ranked within = counted_within d new now within
-counted_less d (b ∷ []) a new is now before ranked within = counted_within d new now within
-counted_less d (b ∷ c ∷ []) a new is now before ranked within = counted_within d new now within
-counted_less d (b ∷ c ∷ e ∷ list) a new is now (_, (of_c, (of_e, _))) ranked within =
-    subst (λ l. counted_to l ≤ e.distance) (sym is)
-    (third (is_nearer a b) (is_nearer a c) (is_nearer a e) (nearer_lacks a e))
-  where
-    later : c.distance ≤ e.distance
-    later = let le = ranked_lacks d c.position e.position ranked.1.0.0 in omega arith
-
-    third : (x y z : Bool) → (z ≡ true → a.distance ≤ e.distance)
-        → counted_to (take 3 (if x then a ∷ b ∷ c ∷ e ∷ list
-        else b ∷ (if y then a ∷ c ∷ e ∷ list
-        else c ∷ (if z then a ∷ e ∷ list else e ∷ inserted a list)))) ≤ e.distance
-    third true y z nearer = later
-    third false true z nearer = later
-    third false false true nearer = nearer refl
-    third false false false nearer = omega arith
 
 -- an event asked stands at this position, at `first` or after it and before `low`
 pub record IsSeen (asked : Selected) (first low position : ℕ) : Type 0 where

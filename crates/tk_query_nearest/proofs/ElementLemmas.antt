@@ -1,7 +1,10 @@
--- The elements of a list, one by one.
-use Rattle.std.proofs.Common.{◌≡◌, zero, suc, Bool, true, false, cond, List, [], ◌∷◌, refl, sym, ap, ◌∙◌, subst, arith, ⊎_elim, ◌⊎◌, inl, inr}
+-- The elements of a list, one by one, and of what is lacking.
+use Rattle.std.proofs.Common.{◌≡◌, zero, suc, Bool, true, false, cond, not, List, [], ◌∷◌, refl, sym, ap, ◌∙◌, subst, arith, ⊎_elim, ◌⊎◌, inl, inr}
 use Rattle.std.specs.List.{Contains, filter}
-use Rattle.std.proofs.lemmas.Bool.{true≢false}
+use Rattle.std.proofs.lemmas.Bool.{not-true, true≢false}
+use Rattle.tk_query.specs.Holds.{cond_holds}
+use Rattle.tk_query_nearest.specs.Laws.{LackingIsExact}
+use Rattle.tk_query_nearest.specs.Members.{members}
 
 pub at_head : {X : Type 0} (x : X) (xs : List X) → Contains (x ∷ xs) x
 at_head x xs = (0, omega arith, refl)
@@ -43,3 +46,9 @@ module _ {X : Type 0} (p : X → Bool) where
       (λ (here : x ≡ z). subst (Contains (cond (p x) (x ∷ filter p xs) (filter p xs))) here (cond_head (p x) x (filter p xs) (ap p here ∙ e)))
       (λ (later : Contains xs z). to_cond (p x) x (filter p xs) z (in_filter xs z later e))
       (head_or_rest x xs z h)
+
+pub lacking_exact : LackingIsExact
+lacking_exact r c e m = (
+  (λ h. let kept = filtered (λ n. not (cond_holds r n e)) (members c) m h in (kept.0, not-true (cond_holds r m e) kept.1)),
+  (λ h. in_filter (λ n. not (cond_holds r n e)) (members c) m h.0 (ap not h.1)),
+)

@@ -1,14 +1,9 @@
 pub mod ElementLemmas
-pub mod MemberLemmas
 pub mod PartLemmas
 pub mod HoldingLemmas
 pub mod WritingLemmas
-pub mod CountedLemmas
 pub mod TakenLemmas
-pub mod RuledOutLemmas
 pub mod ViewLemmas
 pub mod RankLemmas
 pub mod CandidateLemmas
 pub mod NearestIsUnique
-pub mod TextLemmas
-pub mod AskedLemmas

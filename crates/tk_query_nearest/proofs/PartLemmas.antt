@@ -1,6 +1,6 @@
 -- How many parts of a condition don't hold.
-use Rattle.std.proofs.Common.{◌≡◌, ℕ, ◌+◌, ◌<◌, ◌≤◌, ◌⊎◌, min, Bool, true, false, cond, not, ◌&&◌, List, [], ◌∷◌, ◌++◌, map, refl, sym, ap, ◌∙◌, inl, inr, ⊎_elim, zero-add, arith}
-use Rattle.std.specs.Prelude.{sum_by, count_by, if◌then◌else◌}
+use Rattle.std.proofs.Common.{◌≡◌, ℕ, ◌+◌, ◌<◌, ◌≤◌, ◌⊎◌, min, Bool, true, false, cond, not, ◌&&◌, List, [], ◌∷◌, ◌++◌, map, refl, sym, ap, ◌∙◌, inl, inr, ⊎_elim, arith}
+use Rattle.std.specs.Prelude.{count_by, if◌then◌else◌}
 use Rattle.std.proofs.lemmas.Bool.{cases_lt, or_left, or_right}
 use Rattle.std.proofs.lemmas.List.Sums.{sum_by-append, sum_by-cons}
 use Rattle.tk_events.specs.declared.events.Entry.{Entry}
@@ -10,12 +10,10 @@ use Rattle.tk_record.specs.Recorded.{Recorded}
 use Rattle.tk_query_conditions.specs.declared.conditions.Condition as real
 use Rattle.tk_query_conditions.specs.declared.conditions.Condition.{Condition}
 use Rattle.tk_query_conditions.specs.CondOf.{cond_of, pairs_from}
-use Rattle.tk_query_conditions.specs.Cond.{Cond, Plain, With, OfKind, HasSegment, HasPairs, All, Any, Not, Conds, Nothing, More, NoPairs}
+use Rattle.tk_query_conditions.specs.Cond.{Cond, All, Any, Conds, Nothing, More, NoPairs}
 use Rattle.tk_query.specs.Holds.{cond_holds, all_hold, any_holds, pairs_list}
 use Rattle.tk_query.proofs.HoldsLemmas.{pairs_are}
-use Rattle.tk_query_nearest.specs.Members.{members, members_of}
 use Rattle.tk_query_nearest.specs.Parts.{Part, IsKind, HasKey, Meets, part_holds, other_parts, member_parts, missing_parts, missing, missing_of_all, fewest_missing, has_key}
-use Rattle.tk_query_nearest.specs.Laws.{MissingByMembers, NoneMissingHolds}
 
 pub missing-append : (r : Recorded) (xs ys : List Part) (e : Entry)
     → missing_parts r (xs ++ ys) e ≡ missing_parts r xs e + missing_parts r ys e
@@ -29,7 +27,7 @@ lack_is false = refl
 abbrev pub keys : List (List ℕ × List ℕ) → List Part
 keys pairs = map (λ (pair : List ℕ × List ℕ). HasKey pair.0) pairs
 
-pub keys_counted : (r : Recorded) (pairs : List (List ℕ × List ℕ)) (e : Entry)
+keys_counted : (r : Recorded) (pairs : List (List ℕ × List ℕ)) (e : Entry)
     → missing_parts r (keys pairs) e
     ≡ count_by (λ (pair : List ℕ × List ℕ). not (has_key pair.0 e.event.payload)) pairs
 keys_counted r [] e = refl
@@ -74,19 +72,14 @@ member_holds r m e none =
     let sum = sym (missing-append r (other_parts m) (Meets m ∷ []) e) ∙ none in
     none_false (cond_holds r m e) (omega (arith, sum))
 
-uncapped : (n cap : ℕ) → min n (1 + cap) ≡ 0 → n ≡ 0
+pub uncapped : (n cap : ℕ) → min n (1 + cap) ≡ 0 → n ≡ 0
 uncapped n cap e = omega arith
 
 mutual
-  holds_of : (r : Recorded) (c : Cond) (e : Entry) → missing r c e ≡ 0 → cond_holds r c e ≡ true
+  pub holds_of : (r : Recorded) (c : Cond) (e : Entry) → missing r c e ≡ 0 → cond_holds r c e ≡ true
   holds_of r (All cs) e none = all_of r cs e none
   holds_of r (Any cs) e none = any_of r cs e none
-  holds_of r (Plain bare) e none = member_holds r (Plain bare) e none
-  holds_of r (With text_atom text) e none = member_holds r (With text_atom text) e none
-  holds_of r (OfKind kind) e none = member_holds r (OfKind kind) e none
-  holds_of r (HasSegment tag value) e none = member_holds r (HasSegment tag value) e none
-  holds_of r (HasPairs pairs) e none = member_holds r (HasPairs pairs) e none
-  holds_of r (Not c) e none = member_holds r (Not c) e none
+  holds_of r c e none = member_holds r c e none
 
   all_of : (r : Recorded) (cs : Conds) (e : Entry) → missing_of_all r cs e ≡ 0
       → all_hold r cs e ≡ true
@@ -105,26 +98,3 @@ mutual
       (λ (last : missing r c e ≡ 0).
       or_right (any_holds r (More cs d) e) (cond_holds r c e) (holds_of r c e last))
       (min_zero (fewest_missing r (More cs d) e) (missing r c e) none)
-
-pub none_missing : NoneMissingHolds
-none_missing r c e near = holds_of r c e (uncapped (missing r c e) 18446744073709551614 near)
-
-mutual
-  pub missing_by_members : MissingByMembers
-  missing_by_members r (All cs) e = all_by_members r cs e
-  missing_by_members r (Any cs) e = sym (zero-add (missing r (Any cs) e))
-  missing_by_members r (Plain bare) e = sym (zero-add (missing r (Plain bare) e))
-  missing_by_members r (With text_atom text) e = sym (zero-add (missing r (With text_atom text) e))
-  missing_by_members r (OfKind kind) e = sym (zero-add (missing r (OfKind kind) e))
-  missing_by_members r (HasSegment tag value) e =
-      sym (zero-add (missing r (HasSegment tag value) e))
-  missing_by_members r (HasPairs pairs) e = sym (zero-add (missing r (HasPairs pairs) e))
-  missing_by_members r (Not c) e = sym (zero-add (missing r (Not c) e))
-
-  all_by_members : (r : Recorded) (cs : Conds) (e : Entry)
-      → missing_of_all r cs e ≡ sum_by (λ m. missing r m e) (members_of cs)
-  all_by_members r Nothing e = refl
-  all_by_members r (More cs c) e =
-      ap (λ n. n + missing r c e) (all_by_members r cs e)
-      ∙ ap (λ n. sum_by (λ m. missing r m e) (members_of cs) + n) (missing_by_members r c e)
-      ∙ sym (sum_by-append (λ m. missing r m e) (members_of cs) (members c))

@@ -13,10 +13,8 @@ use Rattle.tk_query_conditions.proofs.Members.{cond_of-All, cond_of-Any, conds_m
 use Rattle.tk_query_conditions.proofs.ReaderLemmas.{conds_some}
 use Rattle.tk_query.specs.Holds.{cond_holds}
 use Rattle.tk_query_nearest.specs.Members.{members, members_of, lacking}
-use Rattle.tk_query_nearest.specs.Parts.{missing, fewest_missing}
-use Rattle.tk_query_nearest.specs.declared.counted.Counted.{Counted}
-use Rattle.tk_query_nearest.specs.steps.Counted.{missing_of, missing_of_members}
-use Rattle.tk_query_nearest.specs.steps.Candidates.{lowered, appended}
+use Rattle.tk_query_nearest.specs.Parts.{missing, missing_of_all, fewest_missing}
+use Rattle.tk_query_nearest.specs.steps.{lowered, appended}
 use Rattle.tk_query_nearest.proofs.WritingLemmas.{appended-append}
 
 pub all_is : (c : Condition) (vec : Vec Condition Global) (list : List Condition) → c ≡ real.All vec → list ≡ vec.items → All (conds_from Nothing list) ≡ cond_of c
@@ -27,7 +25,7 @@ pub any_is : (c : Condition) (vec : Vec Condition Global) (list : List Condition
 any_is c vec list is items =
     ap (λ l. Any (conds_from Nothing l)) items ∙ sym (cond_of-Any vec) ∙ sym (ap cond_of is)
 
-pub taken_more : (list : List Condition) (at : ℕ) (m : Condition) → at < length list → m ≡ get_or list at m → conds_from Nothing (take (at + 1) list) ≡ More (conds_from Nothing (take at list)) (cond_of m)
+taken_more : (list : List Condition) (at : ℕ) (m : Condition) → at < length list → m ≡ get_or list at m → conds_from Nothing (take (at + 1) list) ≡ More (conds_from Nothing (take at list)) (cond_of m)
 taken_more list at m lt is =
     ap (conds_from Nothing) (take_more list at m lt ∙ ap (λ (x : Condition). take at list ++ x ∷ []) (sym is)) ∙ conds_more Nothing (take at list) m
 
@@ -43,27 +41,27 @@ rest_after list at =
     ap (conds_from Nothing) (sym (take-append-drop at list))
     ∙ from_append Nothing (take at list) (drop at list)
 
--- of all of the conditions
-module _ (counted : Counted) (r : Recorded) (e : Entry) (most : ℕ) where
+module _ (r : Recorded) (e : Entry) (most : ℕ) where
+  -- of all of the conditions
+
   abbrev pub IsTotal : Conds → ℕ → Type 0
-  IsTotal cs total = total ≡ min (missing_of_members counted r cs e) most
+  IsTotal cs total = total ≡ min (missing r (All cs) e) most
 
   pub total_taken : (list : List Condition) (at : ℕ) (m : Condition) (total more new : ℕ)
       → at < length list → m ≡ get_or list at m → IsTotal (conds_from Nothing (take at list)) total
-      → more ≡ min (missing_of counted r (cond_of m) e) (most - total) → new ≡ total + more
+      → more ≡ min (missing r (cond_of m) e) (most - total) → new ≡ total + more
       → IsTotal (conds_from Nothing (take (at + 1) list)) new
   total_taken list at m total more new lt is f g h =
       let cs = conds_from Nothing (take at list) in
-      h ∙ added (missing_of_members counted r cs e) (missing_of counted r (cond_of m) e) total more
-      f g
-      ∙ ap (λ all. min (missing_of_members counted r all e) most) (sym (taken_more list at m lt is))
+      h ∙ added (missing_of_all r cs e) (missing r (cond_of m) e) total more f g
+      ∙ ap (λ all. min (missing r (All all) e) most) (sym (taken_more list at m lt is))
     where
       added : (s n total more : ℕ) → total ≡ min s most → more ≡ min n (most - total)
           → total + more ≡ min (s + n) most
       added s n total more f g = omega arith
 
   grows : (cs : Conds) (rest : List Condition)
-      → missing_of_members counted r cs e ≤ missing_of_members counted r (conds_from cs rest) e
+      → missing_of_all r cs e ≤ missing_of_all r (conds_from cs rest) e
   grows cs [] = omega arith
   grows cs (x ∷ rest) =
       let later = grows (More cs (cond_of x)) rest in
@@ -77,13 +75,12 @@ module _ (counted : Counted) (r : Recorded) (e : Entry) (most : ℕ) where
       let cs = conds_from Nothing (take at list) in
       let le = grows cs (drop at list) in
       subst (λ all. IsTotal all most) (sym (rest_after list at))
-      (capped (missing_of_members counted r cs e)
-      (missing_of_members counted r (conds_from cs (drop at list)) e) total f full le)
+      (capped (missing_of_all r cs e) (missing_of_all r (conds_from cs (drop at list)) e) total
+      f full le)
     where
       capped : (m n total : ℕ) → total ≡ min m most → total ≡ most → m ≤ n → most ≡ min n most
       capped m n total f full le = omega arith
 
-module _ (r : Recorded) (e : Entry) (most : ℕ) where
   -- of the condition of which the fewest don't hold
 
   abbrev pub IsFewest : Conds → ℕ → Type 0

@@ -1,8 +1,6 @@
 -- The entry at a position, and the view of it.
-use Rattle.std.proofs.Common.{◌≡◌, ℕ, zero, suc, ◌<◌, ◌≤◌, min, All, List, [], ◌∷◌, length, Option, Some, None, IfSome, MatchOption, refl, sym, ap, ◌∙◌, subst, arith}
+use Rattle.std.proofs.Common.{◌≡◌, ℕ, zero, suc, ◌<◌, ◌≤◌, min, List, [], ◌∷◌, length, Option, Some, None, IfSome, MatchOption, refl, sym, ap, ◌∙◌, subst, arith}
 use Rattle.std.specs.List.{slice_get}
-use Rattle.std.proofs.lemmas.List.Elements.{All-get_or}
-use Rattle.std.proofs.lemmas.Option.{get_or_from_slice_get}
 use Rattle.tk_base.proofs.Lists.{get_below}
 use Rattle.tk_events.specs.declared.events.Entry.{Entry}
 use Rattle.tk_record.specs.Recorded.{Recorded}
@@ -40,16 +38,6 @@ pub none_there : (r : Recorded) (c : Cond) (es : List Entry) (i n most : ℕ)
 none_there r c es i n most not_in h =
     subst (λ o. MatchOption o (n ≡ 0) (λ e. n ≡ min (distance r c e) most))
     (sym (past es i not_in)) h
-
--- what holds of each entry holds of the one that a view shows
-pub shown_of_all : (P : Entry → Type 0) (es : List Entry) (i : ℕ) (v : EntryView) → i < length es
-    → IfSome (slice_get es i) (IsViewOf v) → All P es → P (entry_of_view v)
-shown_of_all P es i v lt shows all =
-    let entry = get_below es i lt in
-    let view = subst (λ o. IfSome o (IsViewOf v)) entry.1 shows in
-    let is = get_or_from_slice_get es i entry.0 entry.0 entry.1
-    ∙ sym (shown_entry v entry.0 view) in
-    subst P is (All-get_or P es i entry.0 lt all)
 
 pub view_there : (r : Recorded) (c : Cond) (es : List Entry) (i n most : ℕ) (v : EntryView)
     → i < length es → IfSome (slice_get es i) (IsViewOf v)

@@ -3,32 +3,17 @@ use Rattle.std.proofs.Common.{◌≡◌, ℕ, List, [], ◌∷◌, ◌++◌, ref
 use Rattle.std.specs.Prelude.{codes}
 use Rattle.std.specs.List.{flat_map}
 use Rattle.std.proofs.lemmas.List.{append_assoc, append-nil}
-use Rattle.tk_query_conditions.specs.Cond.{Test, Container, Engine, Started, Succeeded, Failed, Aborted, Id, Name, Skipped, FailedWith, AbortedWith, Message, File, Cond, Plain, With, OfKind, HasSegment, HasPairs, All, Any, Not, cond_text}
+use Rattle.tk_query_conditions.specs.Cond.{Test, Id, Cond, Plain, With, cond_text}
 use Rattle.tk_query_nearest.specs.Members.{joined}
-use Rattle.tk_query_nearest.specs.steps.Candidates.{separated, appended}
+use Rattle.tk_query_nearest.specs.steps.{separated, appended}
 
 -- no condition's text is empty
 first_of : (c : Cond) → (b : ℕ) × (rest : List ℕ) × (cond_text c ≡ b ∷ rest)
 first_of (Plain Test) = (_, _, refl)
-first_of (Plain Container) = (_, _, refl)
-first_of (Plain Engine) = (_, _, refl)
-first_of (Plain Started) = (_, _, refl)
-first_of (Plain Succeeded) = (_, _, refl)
-first_of (Plain Failed) = (_, _, refl)
-first_of (Plain Aborted) = (_, _, refl)
+first_of (Plain bare) = (_, _, refl)
 first_of (With Id text) = (_, _, refl)
-first_of (With Name text) = (_, _, refl)
-first_of (With Skipped text) = (_, _, refl)
-first_of (With FailedWith text) = (_, _, refl)
-first_of (With AbortedWith text) = (_, _, refl)
-first_of (With Message text) = (_, _, refl)
-first_of (With File text) = (_, _, refl)
-first_of (OfKind kind) = (_, _, refl)
-first_of (HasSegment tag value) = (_, _, refl)
-first_of (HasPairs pairs) = (_, _, refl)
-first_of (All cs) = (_, _, refl)
-first_of (Any cs) = (_, _, refl)
-first_of (Not c) = (_, _, refl)
+first_of (With text_atom text) = (_, _, refl)
+first_of c = (_, _, refl)
 
 abbrev further : Cond → List ℕ
 further c = codes ", " ++ cond_text c

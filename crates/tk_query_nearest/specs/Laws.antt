@@ -1,20 +1,13 @@
 -- What follows from the definitions of members, parts and the nearest events.
-use Rattle.std.specs.Prelude.{◌≡◌, ℕ, ◌↔◌, true, false, List, Contains, sum_by}
-use Rattle.std.specs.List.{list_all}
+use Rattle.std.specs.Prelude.{◌≡◌, ℕ, ◌↔◌, true, false, List, Contains}
 use Rattle.tk_events.specs.declared.events.Entry.{Entry}
 use Rattle.tk_record.specs.Recorded.{Recorded}
 use Rattle.tk_record.specs.Selections.{Selected}
 use Rattle.tk_query_conditions.specs.Cond.{Cond}
 use Rattle.tk_query.specs.Holds.{cond_holds}
 use Rattle.tk_query_nearest.specs.Members.{members, lacking}
-use Rattle.tk_query_nearest.specs.Parts.{distance, missing}
+use Rattle.tk_query_nearest.specs.Parts.{distance}
 use Rattle.tk_query_nearest.specs.Nearness.{IsNearest}
-
--- a condition holds of an event exactly where all its members do
-abbrev pub HoldsByMembers : Type 0
-HoldsByMembers =
-    (r : Recorded) (c : Cond) (e : Entry) →
-    cond_holds r c e ≡ list_all (λ member. cond_holds r member e) (members c)
 
 -- what is lacking are the members that don't hold
 abbrev pub LackingIsExact : Type 0
@@ -23,21 +16,10 @@ LackingIsExact =
     Contains (lacking r c e) member
     ↔ (Contains (members c) member × (cond_holds r member e ≡ false))
 
--- as many parts of a condition don't hold of an event as of its members together
-abbrev pub MissingByMembers : Type 0
-MissingByMembers =
-    (r : Recorded) (c : Cond) (e : Entry) →
-    missing r c e ≡ sum_by (λ member. missing r member e) (members c)
-
--- a condition holds of an event where none of its parts fails to hold
+-- a condition holds of an event exactly where none of its parts fails to hold
 abbrev pub NoneMissingHolds : Type 0
 NoneMissingHolds =
-    (r : Recorded) (c : Cond) (e : Entry) → distance r c e ≡ 0 → cond_holds r c e ≡ true
-
--- no part is missing where the condition holds
-abbrev pub HoldsMissesNone : Type 0
-HoldsMissesNone =
-    (r : Recorded) (c : Cond) (e : Entry) → cond_holds r c e ≡ true → distance r c e ≡ 0
+    (r : Recorded) (c : Cond) (e : Entry) → (distance r c e ≡ 0) ↔ (cond_holds r c e ≡ true)
 
 -- the same events and the same condition have one list of nearest events
 abbrev pub NearestIsUnique : Type 0

@@ -1,7 +1,7 @@
 //! The candidates for the nearest events.
 ghost use Rattle.std.specs.Prelude.{◌≡◌, ◌≤◌, ◌==◌, length, slice_get, take};
 ghost use Rattle.tk_query_nearest.specs.Candidates.{listed, positions_of};
-ghost use Rattle.tk_query_nearest.specs.steps.Candidates.{admits, counted_to, inserted, is_nearer};
+ghost use Rattle.tk_query_nearest.specs.steps.{admits, counted_to, inserted, is_nearer};
 
 use crate::parts::MAX_DISTANCE;
 use std::marker::Model;

@@ -6,7 +6,7 @@ ghost use Rattle.tk_query_conditions.specs.Cond.{All, Nothing};
 ghost use Rattle.tk_query_conditions.specs.CondOf.{cond_of};
 ghost use Rattle.tk_query_conditions.specs.steps.Reader.{conds_from};
 ghost use Rattle.tk_query_nearest.specs.Members.{lacking, lacking_text};
-ghost use Rattle.tk_query_nearest.specs.steps.Candidates.{appended, separated};
+ghost use Rattle.tk_query_nearest.specs.steps.{appended, separated};
 
 use std::alloc::{AllocError, Global};
 use tk_ids::Text;

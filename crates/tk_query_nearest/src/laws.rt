@@ -2,31 +2,16 @@
 ghost use Rattle.std.specs.Prelude.{◌≡◌, ◌^◌, ◌-◌};
 ghost use Rattle.tk_query_nearest.specs.declared.candidates.TheConstants.{MAX_NEAREST};
 ghost use Rattle.tk_query_nearest.specs.declared.parts.TheConstants.{MAX_DISTANCE};
-ghost use Rattle.tk_query_nearest.specs.Laws.{HoldsByMembers, LackingIsExact, MissingByMembers, NoneMissingHolds, HoldsMissesNone, NearestIsUnique};
-
-/// A condition holds of an event exactly where all its members do.
-pub fn holds_by_members()
-    ensures { HoldsByMembers }
-{}
+ghost use Rattle.tk_query_nearest.specs.Laws.{LackingIsExact, NoneMissingHolds, NearestIsUnique};
 
 /// What is lacking are the members that don't hold.
 pub fn lacking_is_exact()
     ensures { LackingIsExact }
 {}
 
-/// As many parts of a condition don't hold of an event as of its members together.
-pub fn missing_by_members()
-    ensures { MissingByMembers }
-{}
-
-/// A condition holds of an event where none of its parts fails to hold.
+/// A condition holds of an event exactly where none of its parts fails to hold.
 pub fn none_missing_holds()
     ensures { NoneMissingHolds }
-{}
-
-/// No part is missing where the condition holds.
-pub fn holds_misses_none()
-    ensures { HoldsMissesNone }
 {}
 
 /// The same events and the same condition have one list of nearest events.

@@ -2,16 +2,12 @@
 #![tactic(auto)]
 
 mod candidates;
-mod counted;
-mod distances;
 mod lacking;
 pub mod laws;
 mod parts;
-mod ruled_out;
 mod search;
-mod texts;
 
 pub use candidates::{MAX_NEAREST, Nearest};
 pub use lacking::lacking_text;
-pub use parts::{MAX_DISTANCE, distance};
+pub use parts::MAX_DISTANCE;
 pub use search::nearest;

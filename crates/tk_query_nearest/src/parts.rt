@@ -1,16 +1,14 @@
 //! How many parts of a condition don't hold of an event.
-ghost use Rattle.std.specs.Prelude.{◌≡◌, ◌<◌, ◌≤◌, ◌+◌, min, not, if◌then◌else◌, bytes_eq, count_by, length};
+ghost use Rattle.std.specs.Prelude.{◌≡◌, ◌<◌, ◌≤◌, ◌+◌, min, not, if◌then◌else◌, bytes_eq, count_by, length, slice_get, MatchOption};
 ghost use Rattle.std.specs.List.{list_any};
 ghost use Rattle.tk_record.specs.Entries.{of_kind, of_status, desc};
 ghost use Rattle.tk_record.specs.Record.{entry_of_view};
-ghost use Rattle.tk_query_conditions.specs.Cond.{Any, Nothing};
+ghost use Rattle.tk_query_conditions.specs.Cond.{All, Any, Nothing};
 ghost use Rattle.tk_query_conditions.specs.CondOf.{cond_of};
 ghost use Rattle.tk_query_conditions.specs.steps.Reader.{conds_from};
 ghost use Rattle.tk_query.specs.Holds.{has_within, has_descriptor, message_contains};
 ghost use Rattle.tk_query_nearest.specs.Parts.{distance, has_key, member_parts, missing, missing_parts, other_parts, path_contains, reason_contains};
-ghost use Rattle.tk_query_nearest.specs.steps.Counted.{missing_of, missing_of_members};
 
-use crate::counted::Counted;
 use tk_events::{Kind, Outcome, Payload, Status};
 use tk_ids::Text;
 use tk_query::holds;
@@ -95,7 +93,7 @@ fn finished_so(event: &EntryView, status: Status) -> bool
 }
 
 /// How much is missing where this is whether a part holds.
-pub(crate) fn lack(holds: bool) -> usize
+fn lack(holds: bool) -> usize
     ensures value { result ≡ (if holds then 0 else 1) }
     ensures bound { result ≤ 1 }
 {
@@ -175,47 +173,30 @@ fn missing_of_member(record: &Record, member: &Condition, event: &EntryView) -> 
     }
 }
 
-/// How many parts of the members that are counted don't hold of an event of a record, up to `most`.
+/// How many parts of a condition don't hold of an event of a record, counted up to `most`.
 #[cycle(distances)]
-pub(crate) fn distance_up_to(
-    record: &Record,
-    condition: &Condition,
-    event: &EntryView,
-    counted: Counted,
-    most: usize,
-) -> usize
-    ensures { result ≡ min (missing_of counted «record».now (cond_of condition.now)
-        (entry_of_view event.now)) most }
+fn distance_up_to(record: &Record, condition: &Condition, event: &EntryView, most: usize) -> usize
+    ensures { result
+        ≡ min (missing «record».now (cond_of condition.now) (entry_of_view event.now)) most }
 {
-    if let Condition::All(members) = condition {
-        return distance_of_all(record, members, event, counted, most);
-    }
-    if !counted.includes(condition) {
-        return 0;
-    }
     match condition {
+        Condition::All(members) => distance_of_all(record, members, event, most),
         Condition::Any(members) => distance_of_any(record, members, event, most),
         _ => missing_of_member(record, condition, event).min(most),
     }
 }
 
 #[cycle(distances)]
-fn distance_of_all(
-    record: &Record,
-    members: &[Condition],
-    event: &EntryView,
-    counted: Counted,
-    most: usize,
-) -> usize
-    ensures { result ≡ min (missing_of_members counted «record».now
-        (conds_from Nothing members.now) (entry_of_view event.now)) most }
+fn distance_of_all(record: &Record, members: &[Condition], event: &EntryView, most: usize) -> usize
+    ensures { result ≡ min (missing «record».now (All (conds_from Nothing members.now))
+        (entry_of_view event.now)) most }
 {
     let mut total = 0;
     for member in members {
         if total == most {
             return most;
         }
-        total += distance_up_to(record, member, event, counted, most - total);
+        total += distance_up_to(record, member, event, most - total);
     }
     total
 }
@@ -233,14 +214,24 @@ fn distance_of_any(record: &Record, members: &[Condition], event: &EntryView, mo
         if fewest == 0 {
             return 0;
         }
-        fewest = distance_up_to(record, member, event, Counted::Every, fewest);
+        fewest = distance_up_to(record, member, event, fewest);
     }
     fewest
 }
 
-/// How many parts of a condition don't hold of an event of a record, counted up to `MAX_DISTANCE`.
-pub fn distance(record: &Record, condition: &Condition, event: &EntryView) -> usize
-    ensures { result ≡ distance «record».now (cond_of condition.now) (entry_of_view event.now) }
+/// How many parts of a condition don't hold of the entry at a position, counted up to `most`; 0
+/// past the last one.
+pub(crate) fn distance_at(
+    record: &Record,
+    condition: &Condition,
+    position: usize,
+    most: usize,
+) -> usize
+    ensures { MatchOption (slice_get «record».now.entries position) (result ≡ 0) (λ e.
+        result ≡ min (distance «record».now (cond_of condition.now) e) most) }
 {
-    distance_up_to(record, condition, event, Counted::Every, MAX_DISTANCE)
+    match record.entry(position) {
+        Some(event) => distance_up_to(record, condition, &event, most),
+        None => 0,
+    }
 }

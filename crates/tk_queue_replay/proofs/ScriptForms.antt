@@ -21,7 +21,7 @@ use Rattle.tk_record_text.proofs.Choices.{guarded, stepped}
 use Rattle.tk_record_text.proofs.NumberForms.{number_found, number_again}
 use Rattle.tk_record_text.proofs.Clean.{is_false}
 use Rattle.tk_record_text.proofs.TailForms.{IsField, word, decimal_field}
-use Rattle.tk_record_text.specs.NodeLines.{LacksFeed}
+use Rattle.tk_record_text.specs.Cuts.{LacksFeed}
 use Rattle.tk_record_text.proofs.LineForms.{line_form, line_no_feed}
 use Rattle.tk_queue_replay.specs.Script.{workers_fields, IsCount, workers_line, turn_field}
 use Rattle.tk_queue_replay.specs.Script.{turns_fields, AreTurns, turns_line}

@@ -17,12 +17,13 @@ use Rattle.tk_record_text.specs.declared.versions.Version.{Version}
 use Rattle.tk_record_text.specs.Versions.{HasLineIn}
 use Rattle.tk_record_text.specs.steps.Reading.{in_line, entry_of}
 use Rattle.tk_record_text.specs.Text.{nodes_text, entries_text}
-use Rattle.tk_record_text.specs.NodeLines.{LacksFeed, LacksNodeStart, IsNodesPrefix, IsNodesFault}
+use Rattle.tk_record_text.specs.Cuts.{LacksFeed}
+use Rattle.tk_record_text.specs.NodeLines.{LacksNodeLine, IsNodesPrefix, IsNodesFault}
 use Rattle.tk_record_text.specs.declared.reading.node_lines.NodesFault.{NodesFault}
 use Rattle.tk_record_text.specs.declared.reading.node_lines.NodesFault.TheVariants as listing
 use Rattle.tk_record_text.proofs.Forms.{one_value}
 use Rattle.tk_record_text.proofs.RecordLines.{entry_line_form, entry_no_feed}
-use Rattle.tk_record_text.proofs.After.{same_line, regroup, feed_stands, no_entry_at_node, no_node_start, cells}
+use Rattle.tk_record_text.proofs.After.{same_line, regroup, feed_stands, no_entry_at_node, cells}
 use Rattle.tk_queue_replay.specs.declared.turns.Turn.{Turn}
 use Rattle.tk_queue_replay.specs.declared.replays.Replayed.{Replayed}
 use Rattle.tk_queue_replay.specs.declared.replays.ReplayFault.{ReplayFault}
@@ -92,7 +93,7 @@ no_entry_start rest lacks e m eq = let b = entry_begins e m in lacks b.0 (eq ∙
 pub record SoFar (head : TextHead) (input : List ℕ) (entries : List Entry) (rest : List ℕ) : Type 0 where
   pub prefix : input ≡ entries_text entries ++ rest
   pub own : AreOwn head entries
-  pub no_node : entries ≡ [] → LacksNodeStart rest
+  pub no_node : entries ≡ [] → LacksNodeLine rest
 
 pub bad_entry : (head : TextHead) (nodes : ℕ) (input : List ℕ) (entries : List Entry) (rest : List ℕ) (k : ℕ) → SoFar head input entries rest → ((e : Entry) (m : List ℕ) → IsOwn head e → rest ≢ with_line_feed (entry_line e) ++ m) → NoTurns head.workers rest
     → k ≡ nodes + length entries + 3 → IsFaultAfter head nodes input (faults.BadLine k)
@@ -103,7 +104,7 @@ bad_entry head nodes input entries rest k so none no_turns number table fits lon
   prefix = ap (λ (t : List ℕ). nodes_text table ++ t) so.prefix;
   nodes = fits;
   own = so.own;
-  none = record { node = λ d m empty _ _. no_node_start rest (so.no_node empty) d m; entry = none; turns = no_turns };
+  none = record { node = λ d m empty _ _. so.no_node empty d m; entry = none; turns = no_turns };
   number = omega arith;
 })
 
@@ -159,9 +160,9 @@ list_played version n input body rest faults.TooLarge is count fault = absurd fa
 list_played version n input body rest faults.Device is count fault = absurd fault
 
 -- the answer where a descriptor's line is bad
-pub nodes_played : (version : Version) (n : ℕ) (input body rest : List ℕ) (fault : NodesFault) → IsReplayVersion version × (input ≡ header version ++ body) → IsCount n × (body ≡ with_line_feed (workers_line n) ++ rest) → IsNodesFault 3 rest fault → IsPlayed input (Err (nodes_fault fault))
-nodes_played version n input body rest (listing.BadLine k) is count bad = list_played version n input body rest (faults.BadLine k) is count (inl (record {
-  table = bad.table;
+pub nodes_played : (version : Version) (n : ℕ) (input body rest : List ℕ) (table : List Descriptor) (fault : NodesFault) → IsReplayVersion version × (input ≡ header version ++ body) → IsCount n × (body ≡ with_line_feed (workers_line n) ++ rest) → IsNodesFault 3 rest table fault → IsPlayed input (Err (nodes_fault fault))
+nodes_played version n input body rest table (listing.BadLine k) is count bad = list_played version n input body rest (faults.BadLine k) is count (inl (record {
+  table = table;
   entries = [];
   rest = 78 ∷ 124 ∷ bad.more;
   prefix = bad.prefix;
@@ -174,7 +175,7 @@ nodes_played version n input body rest (listing.BadLine k) is count bad = list_p
   };
   number = omega (arith, bad.number);
 }))
-nodes_played version n input body rest listing.Memory is count bad = tt
+nodes_played version n input body rest table listing.Memory is count bad = tt
 
 pub says : (version : Version) (n : ℕ) (input body rest more last : List ℕ) (table : List Descriptor) (entries : List Entry) (turns : List Turn) → IsReplayVersion version × (input ≡ header version ++ body) → IsCount n × (body ≡ with_line_feed (workers_line n) ++ rest) → IsNodesPrefix rest table more
     → IsEntriesPrefix (text_head version n) more entries last → AreTurns n turns × (last ≡ with_line_feed (turns_line turns)) → IsTextOf input (record { version = version; workers = n; table = table; entries = entries; turns = turns })

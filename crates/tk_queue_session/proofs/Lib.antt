@@ -5,3 +5,4 @@ pub mod KnownKeys
 pub mod SenderSteps
 pub mod ReceiverSteps
 pub mod Recordables
+pub mod SessionLaws

@@ -1,7 +1,16 @@
 //! Laws of sessions, which hold of the definitions alone.
-ghost use Rattle.std.specs.Prelude.{◌≡◌};
+ghost use Rattle.std.specs.Prelude.{◌≡◌, ◌↔◌, ◌<◌, [], ℕ, Bool, false, List, None, length};
+ghost use Rattle.tk_events.specs.declared.events.Event.{Event};
+ghost use Rattle.tk_record.specs.Mixing.{IsWorkerOf};
+ghost use Rattle.tk_queue_core.specs.Core.{items_of, script};
+ghost use Rattle.tk_queue_session.specs.declared.close_faults.CloseReason.{CloseReason};
+ghost use Rattle.tk_queue_session.specs.Closing.{IsCloseFault, IsComplete};
 ghost use Rattle.tk_queue_session.specs.CoreSteps.{HoldsStates, BeginsFresh, PushIsStep, FullIsNone, TakeIsStep, EmptyIsNone, SplitIsNone, BitIsNone, JoinIsNone};
+ghost use Rattle.tk_queue_session.specs.Emission.{is_dynamic};
+ghost use Rattle.tk_queue_session.specs.Limits.{most_events};
+ghost use Rattle.tk_queue_session.specs.Receivers.{NothingWaited, ReceiverView};
 ghost use Rattle.tk_queue_session.specs.Recordable.{IsNeverRefused, IsShort};
+ghost use Rattle.tk_queue_session.specs.Senders.{EmitsLawfully, IsLawfulAfter, SenderView, refusal_of, sends};
 
 use crate::limits::MAX_CAPACITY;
 use crate::session_rules::{
@@ -40,4 +49,32 @@ pub fn limits()
 pub fn no_entry_is_refused()
     ensures never { IsNeverRefused }
     ensures short { IsShort }
+{}
+
+/// Shows that a session that can't be closed has one reason, and one that can be closed has none.
+pub fn one_reason_or_none()
+    ensures one { (receiver : ReceiverView) (tokens : List SenderView) (a b : CloseReason)
+        → IsCloseFault a receiver tokens → IsCloseFault b receiver tokens → a ≡ b }
+    ensures none { (receiver : ReceiverView) (tokens : List SenderView) (why : CloseReason)
+        → IsComplete receiver tokens → IsCloseFault why receiver tokens → ⊥ }
+{}
+
+/// Shows that a sender emitted lawfully exactly where it did so before its last event and this event
+/// may follow, and that an event which registers nothing may follow exactly where `send` takes it.
+pub fn senders_emit_what_is_admitted()
+    ensures last { (sender : SenderView) (event : Event) → EmitsLawfully (sends sender event)
+        ↔ (EmitsLawfully sender × IsLawfulAfter sender sender.sent event
+        × (length sender.sent < most_events)) }
+    ensures admitted { (sender : SenderView) (event : Event) → is_dynamic event ≡ false
+        → (refusal_of sender event ≡ None)
+        ↔ (IsLawfulAfter sender sender.sent event × (length sender.sent < most_events)) }
+{}
+
+/// Shows what `take` says by `None`: of each worker, some events were taken, and after them its mark
+/// or nothing; of all others nothing was.
+pub fn nothing_waits_after_scripts()
+    ensures { (receiver : ReceiverView) → NothingWaited receiver
+        ↔ ((w : ℕ) → (sent : List Event) × (ended : Bool)
+        × (items_of w receiver.taken ≡ script w sent ended)
+        × (¬ IsWorkerOf receiver.workers w → (sent ≡ []) × (ended ≡ false))) }
 {}

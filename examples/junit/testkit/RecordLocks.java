@@ -7,10 +7,14 @@ import java.util.Deque;
 import java.util.HashMap;
 import java.util.List;
 import java.util.Map;
+import java.util.Objects;
 import java.util.TreeMap;
 import java.util.concurrent.ConcurrentLinkedDeque;
+import java.util.function.Consumer;
+import java.util.stream.Collectors;
 import java.util.stream.Stream;
 
+import org.apiguardian.api.API;
 import org.junit.platform.engine.FilterResult;
 import org.junit.platform.engine.TestDescriptor;
 import org.junit.platform.engine.UniqueId;
@@ -18,7 +22,6 @@ import org.junit.platform.engine.support.hierarchical.ExclusiveResource;
 import org.junit.platform.engine.support.hierarchical.ExclusiveResource.LockMode;
 import org.junit.platform.engine.support.hierarchical.Node;
 import org.junit.platform.launcher.PostDiscoveryFilter;
-import org.junit.platform.launcher.TestIdentifier;
 import org.junit.platform.launcher.TestPlan;
 
 /**
@@ -28,14 +31,35 @@ import org.junit.platform.launcher.TestPlan;
  * {@code HierarchicalTestEngine}, as Jupiter is, are {@link Node}s, which are asked when a run begins that is recorded. Other descriptors
  * tell no lock. JUnit finds this class as a service. A launcher that looks for none needs it by {@code addPostDiscoveryFilters}.
  */
+@API(status = API.Status.EXPERIMENTAL, since = "0.1")
 public final class RecordLocks implements PostDiscoveryFilter {
 
-    /** The name that a record has for JUnit's global lock, that of {@code @Isolated}; and the one for another lock of that name. */
+    /** The name that a record has for JUnit's global lock, that of {@code @Isolated}. */
     private static final String GLOBAL = "global";
-    private static final String OTHER_GLOBAL = "[replaced-lock:global]";
+    /** How the name begins that a record has for another lock of that name, or for one whose name begins so. */
+    private static final String REPLACED = "[replaced-lock:";
 
-    /** The root of each tree that was filtered, as long as JUnit keeps it, the newest first. */
-    private static final Deque<Reference<TestDescriptor>> ROOTS = new ConcurrentLinkedDeque<>();
+    /** The root of a tree that was filtered, as long as JUnit keeps it, and the plan that was executed with it. */
+    private static final class Root extends WeakReference<TestDescriptor> {
+
+        private volatile Reference<TestPlan> plan;
+
+        Root(TestDescriptor root) {
+            super(root);
+        }
+
+        boolean isFor(TestPlan other, UniqueId id) {
+            TestDescriptor root = get();
+            return root != null && (plan == null || plan.get() == other) && root.getUniqueId().equals(id);
+        }
+
+        boolean hasId(UniqueId id) {
+            TestDescriptor root = get();
+            return root != null && root.getUniqueId() == id;
+        }
+    }
+
+    private static final Deque<Root> ROOTS = new ConcurrentLinkedDeque<>();
 
     @Override
     public FilterResult apply(TestDescriptor descriptor) {
@@ -51,7 +75,7 @@ public final class RecordLocks implements PostDiscoveryFilter {
     private static void keep(TestDescriptor root) {
         if (ROOTS.stream().noneMatch(it -> it.get() == root)) {
             ROOTS.removeIf(it -> it.get() == null);
-            ROOTS.addFirst(new WeakReference<>(root));
+            ROOTS.addFirst(new Root(root));
         }
     }
 
@@ -59,46 +83,74 @@ public final class RecordLocks implements PostDiscoveryFilter {
         return descriptor.getParent().map(RecordLocks::root).orElse(descriptor);
     }
 
-    /** Does {@link #of(Stream)} with the roots of a plan, as far as they were filtered. */
-    static Map<UniqueId, List<String>> of(TestPlan plan) {
-        return of(plan.getRoots().stream().flatMap(RecordLocks::rootOf));
+    /** Does {@link #of(Stream)} with the roots of a plan, as far as they were filtered; {@code notes} takes what is lost. */
+    static Map<UniqueId, List<String>> of(TestPlan plan, Consumer<String> notes) {
+        return of(plan.getRoots().stream().flatMap(root -> rootOf(plan, root.getUniqueIdObject(), notes)));
     }
 
-    /** Returns the descriptor of a root: JUnit took the identifier's id from it, and the tree of another plan may have one that is equal. */
-    private static Stream<TestDescriptor> rootOf(TestIdentifier root) {
-        return ROOTS.stream().map(Reference::get).filter(it -> it != null && it.getUniqueId() == root.getUniqueIdObject()).limit(1);
+    /**
+     * Returns the descriptor of a root: the one from which JUnit took this id. Where none answers this id itself, the only one with an
+     * equal id that no other plan has.
+     */
+    private static Stream<TestDescriptor> rootOf(TestPlan plan, UniqueId id, Consumer<String> notes) {
+        List<Root> equal = ROOTS.stream().filter(it -> it.isFor(plan, id)).collect(Collectors.toList());
+        List<Root> same = equal.stream().filter(it -> it.hasId(id)).limit(1).collect(Collectors.toList());
+        List<Root> found = same.isEmpty() ? equal : same;
+        if (found.size() > 1) {
+            notes.accept("the locks of " + id + " aren't recorded: " + found.size() + " trees have this id");
+            return Stream.empty();
+        }
+        found.forEach(it -> it.plan = new WeakReference<>(plan));
+        return found.stream().map(Reference::get).filter(Objects::nonNull);
     }
 
     /** Returns the locks of what stands below these roots and has some: of each, in the order of a record, its mode and its name. */
     static Map<UniqueId, List<String>> of(Stream<TestDescriptor> roots) {
-        Map<UniqueId, List<String>> locks = new HashMap<>();
-        roots.distinct().forEach(root -> collect(root, locks));
-        return locks;
+        Map<UniqueId, List<String>> found = new HashMap<>();
+        roots.distinct().forEach(root -> {
+            Map<UniqueId, Map<String, LockMode>> locks = new HashMap<>();
+            collect(root, locks);
+            root.getChildren().stream().filter(it -> it instanceof Node).forEach(it -> addGlobal(it, locks));
+            locks.forEach((id, modes) -> found.put(id, lines(modes)));
+        });
+        return found;
     }
 
-    private static void collect(TestDescriptor descriptor, Map<UniqueId, List<String>> locks) {
+    private static void collect(TestDescriptor descriptor, Map<UniqueId, Map<String, LockMode>> locks) {
         if (descriptor instanceof Node) {
-            List<String> found = locks((Node<?>) descriptor);
-            if (!found.isEmpty()) {
-                locks.put(descriptor.getUniqueId(), found);
-            }
+            locks.put(descriptor.getUniqueId(), locks((Node<?>) descriptor));
         }
         descriptor.getChildren().forEach(child -> collect(child, locks));
     }
 
-    private static List<String> locks(Node<?> node) {
-        Map<String, LockMode> modes = new TreeMap<>(RecordListener.BYTE_ORDER);
+    /** Adds the global lock, as JUnit's executor holds it round a child of an engine: for writing where it or one below declares that. */
+    private static void addGlobal(TestDescriptor child, Map<UniqueId, Map<String, LockMode>> locks) {
+        boolean isIsolated = Stream.concat(Stream.of(child), child.getDescendants().stream()).map(it -> locks.get(it.getUniqueId()))
+                .anyMatch(it -> it != null && it.get(GLOBAL) == LockMode.READ_WRITE);
+        locks.get(child.getUniqueId()).put(GLOBAL, isIsolated ? LockMode.READ_WRITE : LockMode.READ);
+    }
+
+    private static Map<String, LockMode> locks(Node<?> node) {
+        Map<String, LockMode> modes = new TreeMap<>(RecordText.BYTE_ORDER);
         for (ExclusiveResource resource : node.getExclusiveResources()) {
             modes.merge(name(resource.getKey()), resource.getLockMode(), (one, other) -> one == LockMode.READ ? other : one);
         }
         // (a record has no lock without a name)
         modes.remove("");
+        return modes;
+    }
+
+    private static List<String> lines(Map<String, LockMode> modes) {
         List<String> found = new ArrayList<>();
-        modes.forEach((name, mode) -> found.add((mode == LockMode.READ ? "R|" : "W|") + RecordListener.field(name)));
+        modes.forEach((name, mode) -> found.add((mode == LockMode.READ ? "R|" : "W|") + RecordText.field(name)));
         return found;
     }
 
+    /** Returns the name that a record has for a lock: each lock has its own. */
     private static String name(String key) {
-        return key.equals(ExclusiveResource.GLOBAL_KEY) ? GLOBAL : key.equals(GLOBAL) ? OTHER_GLOBAL : RecordListener.shortened(key);
+        if (key.equals(ExclusiveResource.GLOBAL_KEY)) {
+            return GLOBAL;
+        }
+        return key.equals(GLOBAL) || key.startsWith(REPLACED) ? RecordText.shortened(REPLACED + key + "]") : RecordText.shortened(key);
     }
 }

@@ -2,110 +2,63 @@ package testkit;
 
 import java.io.IOException;
 import java.io.UncheckedIOException;
-import java.lang.ref.Reference;
-import java.lang.ref.ReferenceQueue;
-import java.lang.ref.WeakReference;
 import java.nio.file.Files;
 import java.nio.file.Path;
-import java.util.List;
 import java.util.Map;
-import java.util.Set;
 import java.util.WeakHashMap;
-import java.util.concurrent.ConcurrentHashMap;
 
+import org.apiguardian.api.API;
 import org.junit.platform.testkit.engine.EngineExecutionResults;
 
 /**
  * Begins assertions about results of EngineTestKit.
  *
- * <p>Results have one record, in a temporary file, which goes when they do, and at the latest when the process ends. One that an assertion
- * refused stays.
+ * <p>Results have one record, which stays in memory as long as they do. A file is made of it for each question, and goes with it; one that
+ * the message of an assertion names stays.
  */
+@API(status = API.Status.EXPERIMENTAL, since = "0.1")
 public final class ResultsAssert {
 
-    /** The records to be deleted. */
-    private static final Set<Path> TEMPORARY = ConcurrentHashMap.newKeySet();
-    private static final Map<EngineExecutionResults, Recorded> RECORDED = new WeakHashMap<>();
-    private static final ReferenceQueue<EngineExecutionResults> GONE = new ReferenceQueue<>();
-
-    static {
-        Runtime.getRuntime().addShutdownHook(new Thread(() -> TEMPORARY.forEach(path -> path.toFile().delete())));
-    }
-
-    /** The record of results, until they are gone. */
-    private static final class Recorded extends WeakReference<EngineExecutionResults> {
-
-        private final Path path;
-        private final List<String> unregistered;
-
-        Recorded(EngineExecutionResults results, Path path) {
-            super(results, GONE);
-            this.path = path;
-            unregistered = ResultsWriter.unregistered(results);
-        }
-    }
-
-    /** A record that is there as long as something is asked about it. */
-    private static final class Source extends RecordSource {
-
-        /** (else they might go before the last question) */
-        private final EngineExecutionResults results;
-
-        Source(EngineExecutionResults results, Recorded recorded) {
-            super(recorded.path, recorded.unregistered);
-            this.results = results;
-        }
-
-        @Override
-        void keep() {
-            TEMPORARY.remove(path());
-        }
-    }
+    private static final Map<EngineExecutionResults, RecordSource> RECORDED = new WeakHashMap<>();
 
     private ResultsAssert() {
     }
 
-    /** Begins assertions about results, whose record is written to a temporary file at the first call. */
+    /**
+     * Begins assertions about results, whose record is made at the first call.
+     *
+     * @param results the results; never {@code null}
+     */
     public static RecordAssert assertThat(EngineExecutionResults results) {
-        for (Reference<?> gone = GONE.poll(); gone != null; gone = GONE.poll()) {
-            delete((Recorded) gone);
-        }
-        Recorded recorded = recorded(results);
-        return new RecordAssert(new Source(results, recorded), "all", "");
+        RecordAssert.given(results, "results");
+        return new RecordAssert(source(results), RecordAssert.ALL, "");
     }
 
-    /** Returns the record of results. It is written without our lock, since an engine's code runs then, and what is said is said. */
-    private static Recorded recorded(EngineExecutionResults results) {
+    /** Returns the record of results. It is made without our lock, since an engine's code runs then, and what is said is said. */
+    private static RecordSource source(EngineExecutionResults results) {
         synchronized (RECORDED) {
             if (RECORDED.containsKey(results)) {
                 return RECORDED.get(results);
             }
         }
-        Recorded made = record(results);
+        RecordSource made = record(results);
         synchronized (RECORDED) {
-            if (RECORDED.putIfAbsent(results, made) == null) {
-                return made;
-            }
-        }
-        // (another thread was first)
-        delete(made);
-        return recorded(results);
-    }
-
-    private static void delete(Recorded recorded) {
-        if (TEMPORARY.remove(recorded.path)) {
-            recorded.path.toFile().delete();
+            // (another thread may have been first)
+            RECORDED.putIfAbsent(results, made);
+            return RECORDED.get(results);
         }
     }
 
-    private static Recorded record(EngineExecutionResults results) {
+    private static RecordSource record(EngineExecutionResults results) {
         try {
             Path path = Files.createTempFile("testkit-", ".record");
-            TEMPORARY.add(path);
-            if (!ResultsWriter.writeWhole(results, path.toString())) {
-                throw new IllegalStateException("the record of these results isn't whole, as the logger testkit says");
+            try {
+                // (where it isn't whole, each question says so)
+                ResultsWriter.writeWhole(results, path.toString());
+                return new RecordSource(Files.readAllBytes(path), ResultsWriter.unregistered(results));
+            } finally {
+                Files.deleteIfExists(path);
             }
-            return new Recorded(results, path);
         } catch (IOException fault) {
             throw new UncheckedIOException(fault);
         }

@@ -7,8 +7,10 @@ import java.util.HashSet;
 import java.util.LinkedHashMap;
 import java.util.List;
 import java.util.Map;
+import java.util.Optional;
 import java.util.Set;
 
+import org.apiguardian.api.API;
 import org.junit.platform.engine.TestDescriptor;
 import org.junit.platform.engine.TestExecutionResult;
 import org.junit.platform.engine.UniqueId;
@@ -24,6 +26,7 @@ import org.junit.platform.testkit.engine.EventType;
  * <p>The record has each event of {@code allEvents}, in that order. The results don't say which threads called, so each entry
  * is of worker 1. A stamp is the event's time, in microseconds since 1970.
  */
+@API(status = API.Status.EXPERIMENTAL, since = "0.1")
 public final class ResultsWriter {
 
     /** The listener to which the events are reported once more, each at its own time. */
@@ -89,7 +92,7 @@ public final class ResultsWriter {
         identifiers.putAll(unregistered(events));
         Replay replay = new Replay();
         Map<UniqueId, List<String>> locks = replay.locks(() -> RecordLocks.of(events.stream().map(it -> RecordLocks.root(it.getTestDescriptor()))));
-        replay.attempt(() -> replay.begin(path, System.getProperty(RecordListener.STAMPS_PARAMETER, ""), identifiers, locks));
+        replay.attempt(() -> replay.begin(path, key -> Optional.ofNullable(System.getProperty(key)), identifiers, locks));
         events.forEach(replay::report);
         replay.attempt(replay::end);
         return replay.isWhole();

@@ -85,21 +85,9 @@ def loose_lines(numbers: Numbers) -> List[str]:
     return lines
 
 
-SENTENCES = [
-    "and never finished",
-    "neither started nor was skipped",
-    "but a static descriptor has its id",
-    "but its id was registered at",
-    "but no descriptor before has the id of its parent",
-    "had not started",
-    '" started at',
-    '" was skipped at',
-    '" was registered at',
-    '" published entries at',
-    "but its parent",
-    "but its child",
-    "already",
-]
+SENTENCES = """and never finished; neither started nor was skipped; but a static descriptor has its id; but its id was registered at;
+but no descriptor before has the id of its parent; had not started; " started at; " was skipped at; " was registered at;
+" published entries at; but its parent; but its child; already""".replace("\n", " ").split("; ")
 """What sentences of the lifecycle have in them."""
 
 

@@ -8,14 +8,8 @@ from generated.numbers import Cases, Numbers, met_series
 from harness import Case, Check
 from tables.building import HEADER
 
-STATIC = [
-    ("C", "[engine:e]"),
-    ("C", "[engine:e]/[class:A]"),
-    ("T", "[engine:e]/[class:A]/[t:1]"),
-    ("T", "[engine:e]/[class:A]/[t:2]"),
-    ("B", "[engine:e]/[class:B]"),
-    ("T", "[engine:f]"),
-]
+IDS = "[engine:e] [engine:e]/[class:A] [engine:e]/[class:A]/[t:1] [engine:e]/[class:A]/[t:2] [engine:e]/[class:B] [engine:f]".split()
+STATIC = list(zip("CCTTBT", IDS))
 ANSWERS = ["yes", "end", "start", "id-known", "parent-unknown", "parent-not-running", "ran-already", "not-running", "child-running"]
 
 

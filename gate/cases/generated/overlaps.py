@@ -92,7 +92,8 @@ def text_of(numbers: Numbers) -> bytes:
     events = [f"E|1|{made[len(tree)]}|0|dynamic|T|{numbers.one_of(tree)}/[d:1]|d"] if numbers.below(3) == 0 else []
     events += [f"E|1|{made.get(key, key)}|{stamp}|{tail}" for stamp, (key, tail) in enumerate(ran) if key < len(tree) or events]
     version = spoil(numbers, locks, events) if locks and numbers.below(8) == 0 else form.LOCK_VERSION
-    return "".join(line + "\n" for line in [f"testkit-record|{version}", *nodes, *locks, *events]).encode()
+    end = [f"Z|{len(events)}"] * (version == form.LOCK_VERSION)
+    return "".join(line + "\n" for line in [f"testkit-record|{version}", *nodes, *locks, *events, *end]).encode()
 
 
 def locks(numbers: Numbers, *question: str) -> Tuple[List[str], bytes]:

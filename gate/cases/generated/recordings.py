@@ -4,14 +4,8 @@ import form
 from generated.numbers import Numbers
 from tables.building import HEADER
 
-NODES = [
-    "N|C|[engine:e]|e",
-    "N|B|[engine:e]/[class:A]|A",
-    "N|T|[engine:e]/[class:A]/[t:m]|one",
-    "N|T|[engine:e]/[t:a%2Fb]|a(b),c%",
-    "N|C|[suite:s]|",
-    "N|B|[suite:s]/[engine:x]|two",
-]
+NODES = """N|C|[engine:e]|e N|B|[engine:e]/[class:A]|A N|T|[engine:e]/[class:A]/[t:m]|one N|T|[engine:e]/[t:a%2Fb]|a(b),c%
+N|C|[suite:s]| N|B|[suite:s]/[engine:x]|two""".split()
 
 TAILS = r"""
 start start start start finish|ok finish|ok finish|fail finish|fail| finish|fail|boom finish|fail|booms

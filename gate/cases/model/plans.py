@@ -341,4 +341,4 @@ def run(data: bytes, workers: int, is_recorded: bool = False) -> str:
     if not 1 <= workers <= form.MAX_WORKERS:
         raise Refused(f"workers must be 1 to {form.MAX_WORKERS}")
     record = record_of_one_worker(root)
-    return record.text() if is_recorded else report(record)[0]
+    return record.text(form.LOCK_VERSION) if is_recorded else report(record)[0]

@@ -19,7 +19,8 @@ def event_row(record: Record, position: int, more: str = "") -> str:
 
 
 def overlap_rows(record: Record, ends: Dict[int, int], starts: List[int], more: str) -> str:
-    """That the executions of two starts overlap, with what more is said of them, and the rows of their four events."""
-    one, other = [f"{described(record, record.entries[start].event.key)} ({start} to {ends[start]})" for start in starts]
-    positions = sorted(starts + [ends[start] for start in starts])
-    return f"{one} and {other} overlap{more}\n" + "".join(event_row(record, position) for position in positions)
+    """That the executions of two starts overlap, with what more is said of them, and the rows of their starts and finishes."""
+    finishes = [ends[start] for start in starts if ends[start] < len(record.entries)]
+    words = {start: str(ends[start]) if ends[start] in finishes else "the end" for start in starts}
+    one, other = [f"{described(record, record.entries[start].event.key)} ({start} to {words[start]})" for start in starts]
+    return f"{one} and {other} overlap{more}\n" + "".join(event_row(record, position) for position in sorted(starts + finishes))

@@ -90,8 +90,15 @@ def stats(**numbers: int) -> str:
 
 
 def record(*lines: str) -> str:
-    """A record text of these lines after the header, which is another where one is of a lock."""
-    return (LOCK_HEADER if any(line.startswith("L") for line in lines) else HEADER) + "".join(line + "\n" for line in lines)
+    """A record text of these lines after the header; a whole one of version 3 where a line is of a lock."""
+    has_lock = any(line.startswith("L") for line in lines)
+    return whole_record(*lines) if has_lock else HEADER + "".join(line + "\n" for line in lines)
+
+
+def whole_record(*lines: str) -> str:
+    """A record text of version 3 of these lines after the header, with its end line."""
+    end = f"Z|{len([line for line in lines if line.startswith('E')])}"
+    return LOCK_HEADER + "".join(line + "\n" for line in [*lines, end])
 
 
 def replay(*lines: str) -> str:

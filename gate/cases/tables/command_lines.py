@@ -16,14 +16,6 @@ DEMO_REPORT = stats(skipped=1, started=7, finished=7, succeeded=6, failed=1, dyn
 BAD_NUMBERS = [*"09 00 256 1000 18446744073709551617 -1 +1 1.0 1e0 1,2 1; 1_0 one 0x1 ١".split(), "1\n", "", " 1", "1 "]
 
 CASES = rows(__file__, globals()) + [
-    fault("command line/run with 1,000 words", "run" + " x" * 1_000, ONE_TEST_PLAN, BAD),
-    fault("command line/run with workers 1,000 times", "run" + " --workers 1" * 1_000, ONE_TEST_PLAN, BAD),
-    fault("command line/replay with a word of 100,000 letters", f"replay {'x' * 100_000}", SMALL_REPLAY, BAD),
-    fault("command line/word that is no text", [b"ask", b"count", b"\xff"], TWO_TESTS, BAD),
-    fault("command line/command that is no text", [b"\xff"], TWO_TESTS, BAD),
-    fault("command line/workers that are no text", [b"run", b"--workers", b"\xff"], ONE_TEST_PLAN, BAD),
-    fault("workers/= one too many", f"run --workers={ONE_TOO_MANY}", DEMO_PLAN, WORKERS),
-    fault("stats words/blank", ["ask", "stats", "failed= 1"], EMPTY, "bad word 0"),
     *[fault(f"workers/{text!r}", ["run", "--workers", text], ONE_TEST_PLAN, BAD) for text in BAD_NUMBERS],
 ]
 for number in range(1, form.MAX_WORKERS + 1):

@@ -32,41 +32,19 @@ BAD_AT = ["^ test", "test^ ", "all(test^ test)", "all(test,^ test)", "test^\n", 
 BAD_AT += [f"{NOTS}test{ENDS[1:]}^", f"{NOTS}test{ENDS}^)", f"{NOTS}test{ENDS}^not(", "all(not(^x)," + "not(" * 40]
 """Each has a `^` after its longest prefix that begins a condition; more stand in the rows."""
 
-DEEP = [
-    "not(" * 33 + "test" + ")" * 33,
-    "not(" * 33,
-    "not(" * 33 + "x",
-    "all(" * 33 + ")" * 33,
-    "any(" * 33 + ")" * 33,
-    "all(any(not(" * 11,
-    f"{NOTS}all(){ENDS}",
-    f"{NOTS}any(){ENDS}",
-    "all(" * 31 + "not(test),not(not(test))" + ")" * 31,
-    "not(" * 1_000 + "test" + ")" * 1_000,
-]
-
-READ = [
-    "all(" * 32 + ")" * 32,
-    "any(" * 32 + ")" * 32,
-    f"{NOTS}id(x){ENDS}",
-    f"{NOTS}entry(a,b){ENDS}",
-    f"{NOTS}failed(not%28not%28){ENDS}",
-    "all(" + ",".join(["not(test)"] * 100) + ")",
-    "all(" * 31 + ",".join(["not(test)"] * 3) + ")" * 31,
-    "all(all(),any(),all(all(),any()))",
-    "name(not%28)",
-    "entry(a,b,c,d,e,f,g,h)",
-    "segment(,)",
-    "segment(a:b/[],%2C%28)",
-    "message()",
-    f"{NOTS}segment(not%28,all%28){ENDS}",
-]
-"""Conditions that are read; on an empty record none of them holds of an event."""
-
 
 def bad_at(prefix: str, rest: str):
     text = prefix + rest
     return fault(f"condition/{text!r}", ["ask", "match", "loosely", text], EMPTY, f"condition 1 is bad at {len(prefix.encode())}")
+
+
+def deep(name: str, text: str):
+    return fault(name, f"ask match exactly {text}", EMPTY, "condition 1 is too deep")
+
+
+def is_read(name: str, text: str):
+    """A condition is read; on an empty record it holds of no event."""
+    return no(name, f"ask match in-order {text}", EMPTY, "no 0")
 
 
 def all_bad_at(texts: str):
@@ -79,8 +57,4 @@ CASES = rows(__file__, globals()) + [
     *at_all_positions("all(" * 32 + "started" + ")" * 32, "0 1 16"),
     *at_all_positions("any(all(" * 16 + "started" + "))" * 16, "0 1 16"),
     *[bad_at(*text.split("^")) for text in BAD_AT],
-    *[fault(f"deep condition/{number}", f"ask match exactly {text}", EMPTY, "condition 1 is too deep") for number, text in enumerate(DEEP)],
-    *[no(f"condition that is read/{number}", f"ask match in-order {text}", EMPTY, "no 0\n") for number, text in enumerate(READ)],
-    fault("condition/the twelfth", "ask match in-order" + " test" * 11 + " tesx", EMPTY, "condition 12 is bad at 3"),
-    fault("deep condition/the twelfth", "ask match in-order" + " test" * 11 + " not(" + "not(" * 32, EMPTY, "condition 12 is too deep"),
 ]

@@ -4,7 +4,7 @@ from typing import Callable, List
 
 import form
 from harness import Case, Input, Output
-from tables.building import answer, as_bytes, as_words, fault, record, rows, stats
+from tables.building import Text, answer, as_bytes, as_words, fault, record, rows, stats
 from tables.texts import DEEP, DEMO_NODES, DEMO_PLAN, EMPTY, ONE_START, ONE_TEST_PLAN, SMALL_REPLAY, TWO_TESTS
 
 DEVICE_FAILED = ("device failed", 3)
@@ -38,24 +38,22 @@ def error_fails(name: str, words: str, text: str) -> List[Case]:
     return [Case(f"error/{it.name}, {name}", as_words(words), as_bytes(text), status=2, standard_error=it) for it in FAILING_OUTPUTS]
 
 
-BEFORE_THE_WORKERS = [
-    fault(f"input/{kind.name} comes before the number of workers", "run --workers 0", b"", *DEVICE_FAILED, standard_input=kind)
-    for kind in FAILING_INPUTS
-]
-
 DEMO_REPORT = as_bytes(stats(skipped=1, started=7, finished=7, succeeded=6, failed=1, dynamic=1) + DEMO_NODES)
 
-GOOD = [
-    ("ask stats", TWO_TESTS, stats(skipped=1, started=2, finished=2, succeeded=1, failed=1)),
-    ("replay", SMALL_REPLAY, record("N|T|[engine:e]|e", "E|1|0|10|start", "E|2|0|20|report|k|v", "E|1|0|11|finish|ok")),
-    ("run --workers 2", DEMO_PLAN, DEMO_REPORT),
-]
 
-GOOD_INPUTS = [
-    answer(f"input/{kind.name}, {words}", words, data, output, standard_input=kind)
-    for kind in [Input.FILE, Input.PIECES]
-    for words, data, output in GOOD
-]
+def good(words: str, data: str, output: Text) -> List[Case]:
+    return [answer(f"input/{it.name}, {words}", words, data, output, standard_input=it) for it in (Input.FILE, Input.PIECES)]
+
+
+def before_the_workers(words: str) -> List[Case]:
+    name = "comes before the number of workers"
+    return [fault(f"input/{kind.name} {name}", words, b"", *DEVICE_FAILED, standard_input=kind) for kind in FAILING_INPUTS]
+
+
+def too_large(words: str, text: str) -> Case:
+    """A text that is too large is refused at its first byte that is too many."""
+    filled = lambda: text.encode().ljust(form.MAX_TEXT + 1)
+    return fault(f"open input/16 MiB and a byte, {words}", words, filled, "input too large", standard_input=Input.OPEN)
 
 
 def sixteen_mebibytes(before: bytes, after: bytes) -> Callable[[], bytes]:
@@ -63,27 +61,12 @@ def sixteen_mebibytes(before: bytes, after: bytes) -> Callable[[], bytes]:
     return lambda: before + b"x" * (form.MAX_TEXT - len(before) - len(after)) + after
 
 
-LITTLE_MEMORY = [
-    fault(f"little memory/{words} of 16 MiB", words, sixteen_mebibytes(header, rest), "out of memory", 3, memory=16_000)
-    for words, header, rest in [
-        ("ask stats", as_bytes(record()) + b"N|T|[engine:e]|", b"\n"),
-        ("replay", b"testkit-replay|1\nW|1\nN|T|[engine:e]|", b"\nS\n"),
-        ("run", as_bytes(ONE_TEST_PLAN[:-4]), b'"}}'),
-    ]
-]
-"""16 MiB of text don't fit into 16,000 KiB, and a program without it does."""
+def little_memory(words: str, header: bytes, rest: bytes) -> Case:
+    """16 MiB of text don't fit into 16,000 KiB, and a program without it does."""
+    return fault(f"little memory/{words} of 16 MiB", words, sixteen_mebibytes(header, rest), "out of memory", 3, memory=16_000)
+
 
 NO_THREAD = [fault(f"no thread/{it}", it, DEMO_PLAN, "no thread", 3, memory=9_000) for it in ["run", f"run --workers {form.MAX_WORKERS}"]]
 """A thread's stack of 8,192 KiB doesn't fit into 9,000 KiB beside a program, and a program without threads does."""
 
-filled = lambda text: lambda: text.encode().ljust(form.MAX_TEXT + 1)
-TOO_LARGE = [
-    fault(f"open input/16 MiB and a byte, {words}", words, filled(text), "input too large", standard_input=Input.OPEN)
-    for words, text in [
-        *[(f"ask {it}", ONE_START) for it in ("stats", "match in-order started", "list all", "explain loosely started")],
-        *[("replay", SMALL_REPLAY), ("run", ONE_TEST_PLAN), ("run --workers 0", ONE_TEST_PLAN)],
-    ]
-]
-"""A text that is too large is refused at its first byte that is too many."""
-
-CASES = rows(__file__, globals()) + BEFORE_THE_WORKERS + GOOD_INPUTS + TOO_LARGE + LITTLE_MEMORY + NO_THREAD
+CASES = rows(__file__, globals()) + NO_THREAD

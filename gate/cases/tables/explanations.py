@@ -28,6 +28,7 @@ def broken(name: str, output: str):
 RUN = record(*TREE, "E|1|0|0|start", "E|1|1|0|skip|off", "E|1|0|0|finish|ok")
 
 SKIPPED_BESIDE = events("1 skip|off, 2 start, 3 start, 3 finish|ok")
+BOTH_RUN = events("1 start, 2 start")
 RUNS_TWICE = events("1 start, 1 finish|ok, 1 start, 1 finish|fail")
 OF_ONE_ID = record(
     "N|C|[engine:e]|e",

@@ -1,7 +1,7 @@
 """Plans with as many nodes and events as there may be, and one more."""
 
 import form
-from tables.building import answer, fault, stats
+from tables.building import answer, fault, rows, stats
 
 
 def node(kind: str, tag: str, value: str, members: str = "") -> str:
@@ -69,40 +69,4 @@ MOST = f"run --workers {form.MAX_WORKERS}"
 FORTY = lambda mode: plan(nodes("children", 1_000, mode, FORTY_ENTRIES))
 FORTY_REPORT = lambda: report_of(1_000, tails=FORTY_TAILS)
 
-CASES = [
-    answer("65,536 nodes/one unit", "run --workers 2", lambda: plan(nodes("children", 65_535)), lambda: report_of(65_535)),
-    answer("65,536 nodes/65,535 units", MOST, lambda: plan(nodes("children", 65_535, CONCURRENT)), lambda: report_of(65_535)),
-    fault("65,537 nodes/static", "run", lambda: plan(nodes("children", 65_536)), "plan table is refused"),
-    fault("65,537 nodes/below a skipped node", "run", lambda: plan(',"skip":"off"' + nodes("children", 65_536)), "plan table is refused"),
-    answer("65,536 nodes/dynamic", MOST, lambda: plan(nodes("dynamic", 65_536)), lambda: report_of(0, 65_536)),
-    fault("65,537 nodes/dynamic", "run", lambda: plan(nodes("dynamic", 65_537)), "plan table is refused"),
-    answer(
-        "65,536 nodes/of both kinds",
-        *(MOST, lambda: plan(nodes("children", 65_535) + nodes("dynamic", 65_536)), lambda: report_of(65_535, 65_536)),
-    ),
-    answer("2^20 events/entries", "run --workers 2", lambda: plan(entries(1_048_574)), lambda: report_of(0, entries=1_048_574)),
-    answer(
-        "2^20 events/of the spine",
-        *("run --workers 2", lambda: plan(entries(1_048_572) + nodes("children", 1, CONCURRENT)), lambda: report_of(1, entries=1_048_572)),
-    ),
-    fault("2^20 events and one/entries", "run", lambda: plan(entries(1_048_575)), "too many events"),
-    fault("2^20 events and one/before the workers", "run --workers 0", lambda: plan(entries(1_048_575)), "too many events"),
-    answer(
-        "2^20 events and one/of a skipped node",
-        *("run", lambda: plan(',"skip":"off"' + entries(1_048_575)), stats(skipped=1) + "[engine:e]\n  skip|off\n"),
-    ),
-    fault(
-        "2^20 events and one/of a child",
-        *("run", lambda: plan(',"children":[' + node("test", "t", "1", entries(1_048_573)) + "]"), "too many events"),
-    ),
-    answer(
-        "a dynamic node with a name of 1,000,000 bytes",
-        "run --workers 2",
-        lambda: plan(nodes("dynamic", 1)).replace(b'"0"],"name":"n"', f'"0"],"name":"{LONG_NAME}"'.encode()),
-        lambda: report_of(0, 1, registered=NAMED),
-    ),
-    answer("1,000 nodes with 40 entries/concurrent", MOST, lambda: FORTY(CONCURRENT), FORTY_REPORT),
-    answer("1,000 nodes with 40 entries/one unit", "run --workers 2", lambda: FORTY(""), FORTY_REPORT),
-    answer("spine nodes with entries/60 levels", MOST, lambda: spine_plan(60), lambda: spine_report(60)),
-    answer("spine nodes with entries/2 levels", "run", lambda: spine_plan(2), lambda: spine_report(2)),
-]
+CASES = rows(__file__, globals())

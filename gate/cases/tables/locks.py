@@ -2,7 +2,7 @@
 
 from typing import List
 
-from tables.building import LOCK_HEADER, answer, no, refusals, rows
+from tables.building import answer, no, refusals, rows, whole_record
 from tables.exclusives import events_of
 from tables.texts import CUT, EMPTY, TWO_TESTS
 
@@ -14,7 +14,7 @@ MORE = [*NODES, "N|B|[engine:e]/[t:30]|t30", "N|T|[engine:e]/[t:30]/[t:6]|t6", "
 def held(locks: str, events: str, nodes: List[str] = NODES) -> str:
     """A record of two containers and three tests; the locks are keys, modes and names, the events keys and tails, of worker 1."""
     lines = ["L|" + "|".join(lock.split(None, 2)) for lock in locks.split(",") if lock]
-    return LOCK_HEADER + "".join(line + "\n" for line in [*nodes, *lines, *events_of(events)])
+    return whole_record(*nodes, *lines, *events_of(events))
 
 
 BESIDE = "3 start, 4 start, 3 finish|ok, 4 finish|ok"

@@ -59,7 +59,4 @@ OF_HUNDRED = "".join(f"0 succeeded {stamp} {stamp + 1}\n" for stamp in range(0, 
 
 CASES = rows(__file__, globals()) + [
     *[answer(f"300,000 events/count {name}", f"ask count {name}", EVENTS, str(MANY_NUMBERS.get(name, 0))) for name in form.SELECTIONS],
-    answer("100 events/exactly", "ask match exactly" + " started succeeded" * 50, hundred_events, "yes"),
-    no("100 events/exactly, the last fails", "ask match exactly" + " started succeeded" * 49 + " started" * 2, hundred_events, "no 99"),
-    answer("100 events/executions", "ask executions", hundred_events, OF_HUNDRED),
 ]

@@ -1,17 +1,11 @@
 """Each prefix of a record and of a plan."""
 
 from harness import Case
-from tables.building import HEADER, answer, fault, stats
+from tables.building import HEADER, answer, fault
 from tables.texts import DEMO_PLAN, TWO_TESTS
 
-STATISTICS_BY_LINES = [
-    *[stats()] * 4,
-    stats(started=1),
-    stats(started=2),
-    stats(started=2, finished=1, failed=1),
-    stats(skipped=1, started=2, finished=1, failed=1),
-    stats(skipped=1, started=2, finished=2, succeeded=1, failed=1),
-]
+STATISTICS_BY_LINES = 4 * ["stats"] + """stats started=1; stats started=2; stats started=2 finished=1 failed=1;
+stats skipped=1 started=2 finished=1 failed=1; stats skipped=1 started=2 finished=2 succeeded=1 failed=1""".replace("\n", " ").split("; ")
 """The statistics of the first 1, 2, .. lines of the record of two tests."""
 
 

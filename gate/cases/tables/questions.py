@@ -91,24 +91,16 @@ refused = refusals(("list/", "list", 0, TWO_TESTS), ("explain/list, ", "explain 
 ALL_MISSED = "".join(f"mismatch {name} expected 7 actual 0\n" for name in form.STATISTICS)
 
 CASES = rows(__file__, globals()) + [
-    answer("expectations/all met", ["ask", "stats"] + [f"{name}=0" for name in form.STATISTICS], EMPTY, stats()),
-    missed("expectations/all are missed", " ".join(f"{name}=7" for name in reversed(form.STATISTICS)), EMPTY, stats() + ALL_MISSED),
     *[missed_alone(name) for name in form.STATISTICS],
     *[
         answer(f"count/{title}, {name}", f"ask count {name}", text, str(len(picks.get(name, ()))))
         for title, text, picks in SELECTED
         for name in form.SELECTIONS
     ],
-    answer("match/in-order, sixty-five starts", "ask match in-order" + " started" * 65, SIXTY_FIVE_STARTS, "yes " + " ".join(map(str, range(65)))),
-    no("match/in-order, sixty-six of sixty-five starts", "ask match in-order" + " started" * 66, SIXTY_FIVE_STARTS, "no 65"),
-    no("files/asked of version 1", "ask match loosely not(kind(file)) kind(file)", VERSION_1, "no 1"),
     *[
         answer(f"stats of/{title}, all", "ask stats all", text, stats(**{it: len(picks.get(it, ())) for it in form.STATISTICS}))
         for title, text, picks in SELECTED
     ],
     *[listed(f"{title}, {name}", name, text, *picks.get(name, ())) for title, text, picks in SELECTED for name in form.SELECTIONS],
     listed("sixty-five starts", "started", SIXTY_FIVE_STARTS, *range(65)),
-    listed("a hundred events", "skipped", many_lines(100, 99), 99),
-    listed("a thousand events", "skipped", many_lines(1_000, 10), 10),
-    listed("ten thousand and one events", "skipped", many_lines(10_001, 10_000), 10_000),
 ]

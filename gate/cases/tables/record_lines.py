@@ -1,7 +1,7 @@
 """Record texts: the header, each field of each line, unique ids, and what the record refuses."""
 
 import form
-from tables.building import HEADER, LOCK_HEADER, Text, answer, fault, no, record, rows, stats
+from tables.building import HEADER, LOCK_HEADER, Text, answer, fault, no, record, rows, stats, whole_record
 from tables.texts import CUT, EMPTY, TWO_TESTS
 
 NODE = "N|T|[engine:e]|e"
@@ -48,6 +48,12 @@ def bad_entries(lines: str):
 
 def bad_locks(lines: str):
     return [refused(f"lock line/{line!r}", record(NODE, line), "line 3 is bad") for line in lines.split(" ")]
+
+
+def no_text(name: str, line: bytes):
+    """A descriptor is line 2, and an event line 3 below the one of a node."""
+    above = [NODE] if line.startswith(b"E") else []
+    return refused(name, record(*above).encode() + line + b"\n", f"line {2 + len(above)} is bad")
 
 
 def any_question(name: str):
@@ -107,79 +113,12 @@ FALLING = record(NODE, FIRST, "E|1|65536|1|start", "E|1|0|2|report|b|1|a|2")
 THREE_NODES = f"{NODE} ; N|T|[engine:e]/[t:1]|1 ; N|T|[engine:e]/[t:2]|2"
 LOCK_LINES = r"L|0|R|a L|0|W|ab L|0|W|b L|2|W|\n L|2|R|A L|2|W|\\\p L|2|R|global L|2|W|z L|2|R|é".split()
 
-NO_HEADER = [
-    ("a later version", f"testkit-record|{form.LOCK_VERSION + 1}"),
-    ("no line feed", HEADER[:-1].encode()),
-    ("carriage return", HEADER[:-1] + "\r"),
-    ("blank before", " " + HEADER),
-    ("line feed before", "\n" + HEADER),
-    ("byte order mark", "\ufeff" + HEADER),
-    ("capitals", HEADER.upper()),
-    ("replay", f"testkit-replay|{form.LATEST}"),
-    ("node first", NODE + "\n" + HEADER),
-    ("one more field", HEADER[:-1] + "|"),
-    ("no text", b"\xff\xfe\n"),
-]
-
-NO_TEXT = [
-    ("name", b"N|T|[engine:e]|\xff"),
-    ("half a character", b"N|T|[engine:e]|\xc3"),
-    ("id", b"N|T|[engine:\xff]|e"),
-    ("overlong", b"N|T|[engine:e]|\xc0\xaf"),
-    ("surrogate", b"N|T|[engine:e]|\xed\xa0\x80"),
-    ("beyond the last character", b"N|T|[engine:e]|\xf4\x90\x80\x80"),
-    ("reason", b"E|1|0|0|skip|\x80"),
-    ("message", b"E|1|0|0|finish|fail|\xe2\x82"),
-    ("value", b"E|1|0|0|report|k|\xfe"),
-    ("second line before a third", b"\xff\nE|1|5|0|start"),
-]
-"""A descriptor is line 2, and an event line 3 below the one of a node."""
-
 CASES = rows(__file__, globals()) + [
-    *[answer(f"header/version {version}", STATS, f"testkit-record|{version}\n", stats()) for version in form.RECORD_VERSIONS],
-    *[no_header(f"header/{name}", text) for name, text in NO_HEADER],
-    refused("header/twice", HEADER + HEADER, "line 2 is bad"),
-    refused("header/empty line after it", HEADER + "\n", "line 2 is bad"),
+    *[answer(f"header/version {version}", STATS, f"testkit-record|{version}\n", stats()) for version in form.VERSIONS],
     *map(second_line, BAD_NODES),
     *map(good_node, ["N|C|[a:b]| ", "N|T|[a:b]|carriage\rreturn", "N|T|[a:b]|nul\0 and spät and 🦀"]),
     *[third_line(line, "is bad") for line in BAD_ENTRIES],
     *[third_line(line, "has an unknown key") for line in UNKNOWN_KEYS],
     *[third_line(line, "is unlawful") for line in UNLAWFUL],
-    good_line(f"E|{form.MAX_WORKERS}|0|0|start", stats(started=1)),
-    good_line("E|1|0|0|skip|spät\r\0", stats(skipped=1)),
-    good_line(LAST, stats(dynamic=1)),
-    refused("end/no line feed", TWO_TESTS[:-1], "line 9 is bad"),
-    refused("end/empty line", TWO_TESTS + "\n", "line 10 is bad"),
-    refused("end/blank", TWO_TESTS + " ", "line 10 is bad"),
-    refused("end/nul", EMPTY + "\0", "line 2 is bad"),
-    refused("end/a good entry without a line feed", record(NODE) + "E|1|0|0|start", "line 3 is bad"),
-    refused("end/an unknown key without a line feed", record(NODE) + "E|1|5|0|start", "line 3 is bad"),
-    *[
-        refused(f"no text/{name}", record(*above).encode() + line + b"\n", f"line {2 + len(above)} is bad")
-        for name, line in NO_TEXT
-        for above in [[NODE] if line.startswith(b"E") else []]
-    ],
-    refused("files/in version 1", f"testkit-record|1\n{NODE}\nE|1|0|0|file|a\n", "line 3 is bad"),
     *[refused(f"lock lines/in version {it}", f"testkit-record|{it}\n{NODE}\nL|0|W|db\n", "line 3 is bad") for it in form.VERSIONS],
-    refused("lock lines/no text", record(NODE, "L|0|W|").encode()[:-1] + b"\xff\n", "line 3 is bad"),
-    refused("lock lines/no line feed", record(NODE, "L|0|W|db")[:-1], "line 3 is bad"),
-    refused("lock lines/twice the header", LOCK_HEADER + LOCK_HEADER, "line 2 is bad"),
-    answer("lock lines/in order", "ask list all", record(*THREE_NODES.split(" ; "), *LOCK_LINES, "E|1|2|0|start"), "0 E|1|2|0|start"),
-    answer("lock lines/none", STATS, LOCK_HEADER + NODE + "\nE|1|0|0|file|a\n", stats(files=1)),
-    answer("lock lines/no event", STATS, record(NODE, "L|0|W|\x7f\0"), stats()),
-    bad("id/text after", "[engine:e] "),
-    bad("id/text before", " [engine:e]"),
-    good("id/4,096 bytes", "[a:" + "v" * 4_092 + "]"),
-    bad("id/4,097 bytes", "[a:" + "v" * 4_093 + "]"),
-    good("id/4,096 bytes of escapes", "[a:" + "%2F" * 1_364 + "]"),
-    bad("id/4,099 bytes of escapes", "[a:" + "%2F" * 1_365 + "]"),
-    good("id/4,096 bytes of characters of two bytes", "[a:" + "é" * 2_046 + "]"),
-    bad("id/4,098 bytes of characters of two bytes", "[a:" + "é" * 2_047 + "]"),
-    good("id/64 segments", chain(64)),
-    bad("id/65 segments", chain(65)),
-    bad("id/a thousand segments", chain(1_000)),
-    answer("id/root, 4,096 bytes", "ask stats", f"N|T|[a:{'v' * 4_092}]|name", "stats"),
-    fault("id/root, 4,097 bytes", "ask stats", f"N|T|[a:{'v' * 4_093}]|name", "line 2 is bad"),
-    answer("id/64 nodes below one another", "ask stats", below_one_another(64), "stats"),
-    fault("id/65 nodes below one another", "ask stats", below_one_another(65), "line 66 is bad"),
 ]

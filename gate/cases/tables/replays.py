@@ -24,6 +24,10 @@ def small(name: str, steps: str, entries: str = ""):
     return taken(name, [*SMALL_SCRIPT, steps], entries)
 
 
+def faulty(name: str, text, line: str):
+    return fault(name, "replay", text, line)
+
+
 def refused(name: str, lines, line: str):
     return fault(name, "replay", replay(*lines_apart(lines)), line)
 
@@ -38,23 +42,6 @@ STEPS = "S|3 S|0 S|01 S|+1 S|-1 S| S||1 S|1| S|1||t S|T S|tt S|1t S|t1 S1 s|1 SS
 STEPS += ["S|18446744073709551617", "S| 1", "S|1 ", "S 1", "S|1\r"]
 
 WORKERS = [*f"W|0 W|{form.MAX_WORKERS + 1} W|255 W|256 W|257 W|01 W| W W|1| W|1|2 W|a W|+1 w|1".split(), "W| 1", "W|1 ", "W|1\r"]
-
-FAULTS = [
-    ("header, empty input", "", "no header"),
-    ("header, record", record(), "no header"),
-    ("header, a later version", f"testkit-replay|{form.LATEST + 1}\nW|1\nS\n", "no header"),
-    ("header, version 0", "testkit-replay|0\nW|1\nS\n", "no header"),
-    ("header, no line feed", REPLAY_HEADER[:-1], "no header"),
-    ("header, carriage return", REPLAY_HEADER[:-1] + "\r\nW|1\nS\n", "no header"),
-    ("header, blank", " " + SMALL_REPLAY, "no header"),
-    ("no line feed after the steps", SMALL_REPLAY[:-1], "line 7 is bad"),
-    ("no line feed after the workers", REPLAY_HEADER + "W|2", "line 2 is bad"),
-    ("blank after the end", SMALL_REPLAY + " ", "line 8 is bad"),
-    ("line feed after the end", SMALL_REPLAY + "\n", "line 8 is bad"),
-    ("no text", replay("W|1").encode() + b"N|T|[engine:\xff]|e\nS\n", "line 3 is bad"),
-    ("no text among the steps", replay("W|1").encode() + b"S|\xff\n", "line 3 is bad"),
-    ("file in version 1", f"testkit-replay|1\nW|1\n{NODE}\nE|1|0|0|file|a\nS\n", "line 4 is bad"),
-]
 
 EVERY_TAIL = [line.replace("␀", "\0").replace("␍", "\r") for line in lines_of("EVERY_TAIL")]
 """Each form of a tail, with each escape of a text field."""
@@ -71,19 +58,8 @@ OF_VERSION_1 = "\n".join(["testkit-replay|1", "W|1", *NODES, *EVERY_TAIL[:-1], "
 AFTER_ALL = "S" + "|1" * (len(EVERY_TAIL) + 1) + "|t" * 100
 
 CASES = rows(__file__, globals()) + [
-    answer("replay/small replay", "replay", SMALL_REPLAY, SMALL_RECORD),
-    answer("replay/small replay of version 1", "replay", "testkit-replay|1\n" + SMALL_REPLAY[len(REPLAY_HEADER) :], SMALL_RECORD),
     *[refused(f"replay/steps {steps!r}", [*SMALL_SCRIPT, steps], "line 7 is bad") for steps in STEPS],
     *[answer(f"replay/header of version {it}", "replay", f"testkit-replay|{it}\nW|1\nS\n", record()) for it in form.VERSIONS],
-    *[fault(f"replay/{name}", "replay", text, line) for name, text, line in FAULTS],
     *[taken(f"replay/W|{workers}", [f"W|{workers}", f"S|{workers}|t"]) for workers in ALL_WORKERS],
     *[refused(f"replay/workers {line!r}", [line, "S"], "line 2 is bad") for line in WORKERS],
-    refused("replay/empty line after the steps", ["W|2", "S|t", ""], "line 4 is bad"),
-    taken("replay/every tail", ["W|1", *NODES, *EVERY_TAIL, "S" + "|1|t" * len(EVERY_TAIL)], EVERY_TAIL),
-    answer("replay/every tail of version 1", "replay", OF_VERSION_1, record(*NODES, *EVERY_TAIL[:-1])),
-    taken("replay/every tail after the last was emitted", ["W|1", *NODES, *EVERY_TAIL, AFTER_ALL], EVERY_TAIL),
-    taken("replay/nodes alone", [f"W|{form.MAX_WORKERS}", *NODES, "S"]),
-    taken("replay/a hundred steps", ["W|1", NODE, *STARTS, "S" + "|1|t" * 50], STARTS),
-    refused("replay/a hundred steps and one too many", ["W|1", NODE, *STARTS, "S" + "|1|t" * 50 + "|1|1"], "step 101 comes after the end mark"),
-    taken("replay/all workers in turn", [f"W|{form.MAX_WORKERS}", NODE, *OF_ALL_WORKERS, IN_TURN], OF_ALL_WORKERS[::-1]),
 ]

@@ -2,25 +2,25 @@
 
 import form
 from harness import RecordedRun
-from tables.building import answer, fault, lines_of, record, rows
+from tables.building import answer, fault, lines_of, rows, whole_record
 from tables.command_lines import DEMO_REPORT, ONE_TEST_REPORT, ONE_TOO_MANY, WORKERS
 from tables.large_plans import nodes, plan, report_of
 from tables.plan_texts import children, dynamic, node, root
 from tables.schedules import PLAN, REPORT
 from tables.texts import DEMO_PLAN, ONE_TEST_PLAN
 
-DEMO_RECORD = record(*lines_of("DEMO_RECORD"))
+DEMO_RECORD = whole_record(*lines_of("DEMO_RECORD"))
 
-ONE_TEST_RECORD = record("N|T|[engine:e]|e", "E|1|0|0|start", "E|1|0|1|finish|ok")
+ONE_TEST_RECORD = whole_record("N|T|[engine:e]|e", "E|1|0|0|start", "E|1|0|1|finish|ok")
 
 BELOW_A_SKIP = root(children(node("container", "c", "1", ',"skip":"off"' + children(node("test", "t", "1"))), node("test", "t", "2")))
-BELOW_A_SKIP_RECORD = record(*lines_of("BELOW_A_SKIP_RECORD"))
+BELOW_A_SKIP_RECORD = whole_record(*lines_of("BELOW_A_SKIP_RECORD"))
 """One unit, of which a container is skipped: what is below it has a key and no event."""
 
 CONCURRENT = ',"mode":"concurrent"'
 INNER = node("container", "c", "1", CONCURRENT + ',"entries":[[["k","v"]]]' + children(node("test", "t", "1", CONCURRENT)))
 SPINE = root(',"entries":[[]]' + children(INNER, node("test", "t", "2", CONCURRENT + dynamic(node("test", "d", "1"), node("test", "d", "2")))))
-SPINE_RECORD = record(*lines_of("SPINE_RECORD"))
+SPINE_RECORD = whole_record(*lines_of("SPINE_RECORD"))
 """A container on the spine within the root: its finish comes after all units, with its own stamp."""
 
 
@@ -42,7 +42,7 @@ LOCKED = root(
         node("test", "t", "8", locks("read_write ")),
     )
 )
-LOCKED_RECORD = record(*lines_of("LOCKED_RECORD"))
+LOCKED_RECORD = whole_record(*lines_of("LOCKED_RECORD"))
 """The stronger of two locks of a node; `isolated` with `global` and alone; a lock without a name; names in byte order."""
 
 WITHOUT_A_LOCK = ONE_TEST_PLAN.replace('"name"', '"locks":[{"key":""}],"name"')

@@ -2,7 +2,7 @@
 
 import form
 from harness import Case, ThreadCount
-from tables.building import answer, as_words, stats
+from tables.building import TEXTS, answer, as_words, stats
 from tables.large_plans import CONCURRENT, nodes, plan, report_of
 from tables.plan_texts import children, dynamic, node, plan_of
 
@@ -26,14 +26,7 @@ PLAN = plan_of(node("container", "engine", "e", children(*map(group, range(GROUP
 REPORT = (
     stats(skipped=GROUPS, started=1 + 3 * GROUPS, finished=1 + 3 * GROUPS, succeeded=1 + 3 * GROUPS, dynamic=GROUPS, files=GROUPS)
     + "[engine:e]\n  start\n  finish|ok\n"
-    + "".join(
-        f"[engine:e]/[c:{number:02}]\n  start\n  finish|ok\n"
-        f"[engine:e]/[c:{number:02}]/[d:1]\n"
-        f"  dynamic|T|[engine:e]/[c:{number:02}]/[d:1]|1\n  start\n  file|log\n  finish|ok\n"
-        f"[engine:e]/[c:{number:02}]/[t:1]\n  start\n  finish|ok\n"
-        f"[engine:e]/[c:{number:02}]/[t:2]\n  skip|off\n"
-        for number in range(GROUPS)
-    )
+    + "".join(TEXTS["REPORT_OF_A_GROUP"].replace("NUMBER", f"{number:02}") for number in range(GROUPS))
 )
 
 

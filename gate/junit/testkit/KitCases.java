@@ -17,7 +17,7 @@ import testkit.ScriptedEngine.Tree;
 /**
  * Runs of small engines under the recorder of JUnit's {@code EngineTestKit}, whose results {@link ResultsWriter} writes.
  *
- * <p>It leaves what {@link ListenerCases} does.
+ * <p>It leaves what {@link Cases} does.
  */
 public class KitCases {
 
@@ -48,7 +48,7 @@ public class KitCases {
     public static void main(String[] arguments) throws Exception {
         for (int i = 1; i < arguments.length; i++) {
             String name = arguments[i];
-            ListenerCases.run(arguments[0], name, () -> CASES.get(name).run(arguments[0] + File.separator + name + ".record", name));
+            Cases.run(arguments[0], name, () -> CASES.get(name).run(arguments[0] + File.separator + name + ".record", name));
         }
     }
 
@@ -62,7 +62,7 @@ public class KitCases {
 
     /** Results at the path of a run that a listener of this process has recorded. */
     private static void overListener(String path, String name) {
-        ListenerCases.launch(new RecordListener(path), KitCases::oneTest, (calls, root) -> calls.skip(root, "first"));
+        Cases.launch(new RecordListener(path), KitCases::oneTest, (calls, root) -> calls.skip(root, "first"));
         write(path, name, KitCases::oneTest, (calls, root) -> calls.start(root));
     }
 
@@ -121,9 +121,9 @@ public class KitCases {
 
     private static void times(String path, String name) {
         write(path, name, KitCases::oneTest, (calls, root) -> {
-            ListenerCases.pause();
+            Cases.pause();
             calls.start(root);
-            ListenerCases.pause();
+            Cases.pause();
             calls.succeed(root);
         });
     }
@@ -165,7 +165,7 @@ public class KitCases {
 
     /** Results at the path of earlier ones, which have more events. The later ones have none of their root, and first one of no tree. */
     private static void twoResults(String path, String name) {
-        write(path, name, ListenerCases::kindsTree, ListenerCases::kindsScript);
+        write(path, name, TextCases::kindsTree, TextCases::kindsScript);
         write(path, name, root -> root.add("c", "1", "a container", Type.CONTAINER).add("t", "1", "a test", Type.TEST), (calls, root) -> {
             calls.start(new Node(root.getUniqueId().append("t", "2"), "two", Type.TEST));
             calls.start(root.child(0).child(0));

@@ -9,9 +9,12 @@ import java.lang.reflect.Proxy;
 import java.util.LinkedHashSet;
 import java.util.Set;
 
+import org.junit.platform.engine.EngineDiscoveryRequest;
+import org.junit.platform.engine.ExecutionRequest;
 import org.junit.platform.engine.FilterResult;
 import org.junit.platform.engine.TestDescriptor;
 import org.junit.platform.engine.TestDescriptor.Type;
+import org.junit.platform.engine.TestEngine;
 import org.junit.platform.engine.UniqueId;
 import org.junit.platform.engine.support.hierarchical.EngineExecutionContext;
 import org.junit.platform.engine.support.hierarchical.ExclusiveResource;
@@ -23,7 +26,7 @@ import org.junit.platform.launcher.TestPlan;
 import org.junit.platform.launcher.core.LauncherConfig;
 import org.junit.platform.launcher.core.LauncherDiscoveryRequestBuilder;
 import org.junit.platform.launcher.core.LauncherFactory;
-import testkit.ListenerCases.Room;
+import testkit.Cases.Room;
 import testkit.ScriptedEngine.Node;
 import testkit.ScriptedEngine.Script;
 import testkit.ScriptedEngine.Tree;
@@ -31,7 +34,7 @@ import testkit.ScriptedEngine.Tree;
 /**
  * Runs of small engines whose descriptors declare locks, each recorded.
  *
- * <p>It leaves what {@link ListenerCases} does.
+ * <p>It leaves what {@link Cases} does.
  */
 public class LockCases {
 
@@ -75,17 +78,55 @@ public class LockCases {
         }
     }
 
+    /** An engine whose root answers a new id each time. */
+    private static class NewId extends ScriptedEngine {
+
+        private final String lock;
+
+        NewId(String lock) {
+            super("e", "engine", root -> { }, START);
+            this.lock = lock;
+        }
+
+        @Override
+        public TestDescriptor discover(EngineDiscoveryRequest request, UniqueId rootId) {
+            Node root = new Node(rootId, "engine", Type.CONTAINER);
+            Locking child = Locking.below(root, "1").lock(lock, READ);
+            Class<?>[] types = {TestDescriptor.class};
+            TestDescriptor answering = (TestDescriptor) Proxy.newProxyInstance(LockCases.class.getClassLoader(), types,
+                    (it, method, arguments) -> {
+                        if (method.getName().equals("accept")) {
+                            ((TestDescriptor.Visitor) arguments[0]).visit((TestDescriptor) it);
+                            child.accept((TestDescriptor.Visitor) arguments[0]);
+                            return null;
+                        }
+                        return method.getName().equals("getUniqueId") ? UniqueId.parse(rootId.toString()) : method.invoke(root, arguments);
+                    });
+            child.setParent(answering);
+            return answering;
+        }
+
+        @Override
+        public void execute(ExecutionRequest request) {
+            request.getEngineExecutionListener().executionStarted(request.getRootTestDescriptor());
+        }
+    }
+
     private LockCases() {
     }
 
     public static void main(String[] arguments) throws Exception {
-        ListenerCases.main(LockCases.class, arguments);
+        Cases.main(LockCases.class, arguments);
     }
 
     /** Returns a launcher of one engine, which starts its root alone. */
     private static Launcher launcher(Tree tree, PostDiscoveryFilter... filters) {
+        return launcher(new ScriptedEngine("e", "engine", tree, START), filters);
+    }
+
+    private static Launcher launcher(TestEngine engine, PostDiscoveryFilter... filters) {
         return LauncherFactory.create(LauncherConfig.builder().enableTestExecutionListenerAutoRegistration(false)
-                .enableTestEngineAutoRegistration(false).addTestEngines(new ScriptedEngine("e", "engine", tree, START))
+                .enableTestEngineAutoRegistration(false).addTestEngines(engine)
                 .addPostDiscoveryFilters(filters).build());
     }
 
@@ -95,18 +136,15 @@ public class LockCases {
     }
 
     private static void locks(Room room) {
-        ListenerCases.launch(new RecordListener(room.path()), root -> {
+        Cases.launch(new RecordListener(room.path()), root -> {
             Locking.below(root, "1").lock("db", READ_WRITE).below("2").lock("db", READ);
             Locking.below(root, "3");
             Locking.below(root, "4").lock("net", READ).lock("db", READ).lock("db", READ_WRITE);
             Locking.below(root, "5").lock("net", READ_WRITE).lock("db", READ_WRITE).lock("db", READ);
-            Locking.below(root, "6").lock(ExclusiveResource.GLOBAL_KEY, READ_WRITE).lock("global", READ);
+            Locking.below(root, "6").lock(ExclusiveResource.GLOBAL_KEY, READ_WRITE).lock("global", READ).lock("[replaced-lock:global]", READ_WRITE);
             Locking.below(root, "7").lock(ExclusiveResource.GLOBAL_KEY, READ).lock("Global", READ_WRITE);
             root.add("t", "8", "no lock", Type.TEST);
-            // (the parent of its id comes later)
-            UniqueId late = root.getUniqueId().append("late", "1");
-            Locking.at(root, late.append("missing", "2").append("t", "3")).lock("a", READ_WRITE);
-            Locking.at(root, late).lock("b", READ_WRITE);
+            Locking.below(root, "9").below("10").lock(ExclusiveResource.GLOBAL_KEY, READ_WRITE);
         }, (calls, root) -> calls.register(Locking.below(root, "dynamic").lock("db", READ_WRITE)));
     }
 
@@ -114,7 +152,7 @@ public class LockCases {
     private static void lockNames(Room room) {
         launch(room, new RecordListener(room.path()), root -> {
             Locking test = Locking.below(root, "1");
-            for (String name : new String[] {"a|b", "a{", "a\\", "a\nb", "\uD83D\uDE00", "\uFF21", ListenerCases.letters(65_537), " b ", "\uD83D"}) {
+            for (String name : new String[] {"a|b", "a{", "a\\", "a\nb", "\uD83D\uDE00", "\uFF21", Cases.letters(65_537), " b ", "\uD83D"}) {
                 test.lock(name, READ);
             }
             test.lock("\uDE00", READ_WRITE).locks.add(new ExclusiveResource("none", READ) {
@@ -153,7 +191,7 @@ public class LockCases {
             root.addChild(new Locking(root.getUniqueId().append("t", "2")) {
                 @Override
                 public Set<ExclusiveResource> getExclusiveResources() {
-                    throw new ListenerCases.Unreadable();
+                    throw new Cases.Unreadable();
                 }
             });
         }, new RecordLocks());
@@ -183,7 +221,7 @@ public class LockCases {
             it.addChild(new Locking(it.getUniqueId().append("t", "1")) {
                 @Override
                 public Set<ExclusiveResource> getExclusiveResources() {
-                    ListenerCases.isFree(room, listener);
+                    Cases.isFree(room, listener);
                     return super.getExclusiveResources();
                 }
             }.lock("db", READ));
@@ -191,12 +229,26 @@ public class LockCases {
         return new WeakReference<>(root[0]);
     }
 
-    /** A lock for which there is no place, before one for which there would be. */
+    /** A lock for which there is no place, before one for which there would be; names leave ten bytes. */
     private static void locksAtTheLimit(Room room) {
         Tree tree = root -> {
             Locking.below(root, "1").lock("a", READ).lock("bb", READ).lock("c", READ);
-            root.add("t", "2", ListenerCases.letters((16 << 20) - 104), Type.TEST);
+            for (int i = 2; i < 258; i++) {
+                root.add("t", "" + i, Cases.letters(i < 257 ? 65_536 : 59_422), Type.TEST);
+            }
         };
         launch(room, new RecordListener(room.path()), tree, new RecordLocks());
+    }
+
+    /** Roots that answer an equal, new id: in one plan after another, in a plan that two listeners record, and in two plans at once. */
+    private static void locksOfNewIds(Room room) {
+        for (String name : new String[] {"first", "second"}) {
+            launcher(new NewId(name), new RecordLocks()).execute(REQUEST, new RecordListener(room.path() + "." + name),
+                    new RecordListener(room.path() + "." + name + "-again"));
+        }
+        Launcher launcher = launcher(new NewId("third"), new RecordLocks());
+        TestPlan[] plans = {launcher.discover(REQUEST), launcher.discover(REQUEST)};
+        launcher.execute(plans[0], new RecordListener(room.path() + ".third"));
+        room.fact("plans", plans.length);
     }
 }

@@ -34,16 +34,19 @@ import java.nio.charset.Charset;
 import java.nio.file.Files;
 import java.nio.file.Path;
 import java.nio.file.Paths;
+import java.nio.file.attribute.PosixFilePermissions;
 import java.util.Arrays;
 import java.util.Collections;
 import java.util.LinkedHashMap;
 import java.util.List;
 import java.util.Map;
 import java.util.function.Function;
+import java.util.function.UnaryOperator;
 
 import org.junit.jupiter.api.AfterEach;
 import org.junit.jupiter.api.BeforeEach;
 import org.junit.jupiter.api.Test;
+import org.junit.jupiter.api.function.Executable;
 import org.junit.jupiter.api.io.TempDir;
 import org.junit.platform.engine.ExecutionRequest;
 import org.junit.platform.engine.TestDescriptor.Type;
@@ -70,6 +73,7 @@ class RecordAssertTests {
     private static final String BROKEN = "testkit-record|2\nN|T|[engine:e]|e\nE|1|0|0|start\n";
     private static final String FORGOTTEN = "testkit-record|2\nN|C|[engine:e]|e\nN|T|[engine:e]/[t:1]|one\nE|1|0|0|start\nE|1|0|0|finish|ok\n";
     private static final String STATISTICS = "skipped 0";
+    private static final String PACKED = "testkit-x86_64-linux";
 
     @TempDir
     Path folder;
@@ -85,6 +89,7 @@ class RecordAssertTests {
     void clearProperties() {
         System.clearProperty("testkit.program");
         System.clearProperty("testkit.seconds");
+        System.clearProperty("testkit.required");
     }
 
     /** Puts a script in place of a program, which keeps its words and its input beside itself. */
@@ -146,15 +151,21 @@ class RecordAssertTests {
         program("echo 0 a; echo 3 b");
         RecordAssert asserting = RecordAssert.assertThat(record).tests().hasCount(2, "x");
         assertEquals("ask explain list tests x", String.join(" ", words("program")));
+        String[] asked = {"list tests x", "tests in-order x x x"};
         for (int count : new int[] {1, 3}) {
-            Error fault = assertThrows(AssertionFailedError.class, () -> asserting.hasCount(count, "x"));
-            String asked = folder.resolve("program") + " ask explain list tests x < " + record;
-            assertEquals(count + " events wanted, 2 found: " + asked + "\n0 a\n3 b", fault.getMessage());
+            AssertionFailedError fault = assertThrows(AssertionFailedError.class, () -> asserting.hasCount(count, "x"));
+            String command = folder.resolve("program") + " ask explain " + asked[count / 2] + " < " + record;
+            assertEquals(count + " events wanted, 2 found: " + command + "\n0 a\n3 b", fault.getMessage().trim());
+            assertEquals(count + " 2", fault.getExpected().getValue() + " " + fault.getActual().getValue());
         }
         assertEquals(Arrays.asList("0 a", "3 b"), asserting.list());
         assertEquals("ask explain list tests", String.join(" ", words("program")));
         assertEquals("0 a\n3 b\n", printed(asserting::debug));
         assertEquals("ask explain list tests", String.join(" ", words("program")));
+        program("[ \"$3\" = stats ] && echo failed 7 && echo skipped 0 && exit 1");
+        AssertionFailedError statistics = assertThrows(AssertionFailedError.class, () -> asserting.hasStatistics("skipped=1", "failed=2"));
+        assertEquals("skipped=1, failed=2", statistics.getExpected().getValue());
+        assertEquals("skipped=0, failed=7", statistics.getActual().getValue());
         program("true");
         assertEquals(Collections.emptyList(), asserting.hasCount(0, "x").list("x", "y"));
         program("echo 0 a", "exit 1");
@@ -171,6 +182,31 @@ class RecordAssertTests {
             System.setOut(output);
         }
         return printed.toString();
+    }
+
+    /** A match whose conditions stand for themselves tells of each that doesn't hold. */
+    @Test
+    void eachFaultOfAMatchIsTold() throws IOException {
+        program("[ \"$5\" = a ] && echo no 0 && echo of a && exit 1", "[ \"$7\" = c ] && echo no 2 && echo of c && exit 1", "echo yes");
+        for (UnaryOperator<RecordAssert> asking : Arrays.<UnaryOperator<RecordAssert>>asList(it -> it.matchesLoosely("a", "b", "c"),
+                it -> it.matchesExactly("a", "b", "c"))) {
+            Error fault = assertThrows(AssertionFailedError.class, () -> asking.apply(RecordAssert.assertThat(record)));
+            assertTrue(fault.getMessage().endsWith("\nno 0\nof a\nno 2\nof c\n"), fault.getMessage());
+            assertEquals("ask explain all " + words("program").get(3) + " all() b all()", String.join(" ", words("program")));
+        }
+    }
+
+    /** Whatever is asked of a record that is cut off, the assertion fails. */
+    @Test
+    void aRecordThatIsCutOffFailsEachAssertion() throws IOException {
+        program("echo testkit: record is cut off after line 5 >&2", "exit 2");
+        String recover = "record is cut off after line 5; what stands before: " + folder.resolve("program") + " recover < ";
+        for (Function<RecordAssert, RecordAssert> method : methods().values()) {
+            Error fault = assertThrows(AssertionFailedError.class, () -> method.apply(RecordAssert.assertThat(record)));
+            assertTrue(fault.getMessage().endsWith("\n" + recover + record), fault.getMessage());
+        }
+        assertThrows(AssertionFailedError.class, () -> RecordAssert.assertThat(record).list());
+        assertThrows(AssertionFailedError.class, () -> RecordAssert.assertThat(record).hasCount(0, "x"));
     }
 
     /** The command of a message does in a shell what the assertion did. */
@@ -223,22 +259,36 @@ class RecordAssertTests {
     }
 
     @Test
-    void withoutAProgramATestIsAborted() throws IOException {
+    void aProgramThatIsNamedHasToBeThere() throws IOException {
         Path other = Files.write(folder.resolve("other"), new byte[] {0x7f, 'E', 'L', 'F', 0});
         assertTrue(other.toFile().setExecutable(true));
         for (Path program : new Path[] {folder.resolve("nowhere"), folder, other}) {
             System.setProperty("testkit.program", program.toString());
-            RuntimeException fault = assertThrows(TestAbortedException.class, () -> RecordAssert.assertThat(record).exclusive("x"));
+            RuntimeException fault = assertThrows(IllegalStateException.class, () -> RecordAssert.assertThat(record).exclusive("x"));
             assertTrue(fault.getMessage().contains(program + "\""), fault.getMessage());
-            assertTrue(fault.getMessage().contains("install testkit_VERSION_amd64.deb"), fault.getMessage());
         }
     }
 
     @Test
-    void theProgramIsOnThePathWithoutAProperty() {
+    void withoutAProgramATestIsAbortedUnlessOneIsRequired() {
+        assumeTrue(RecordProgram.class.getResource(PACKED) == null);
         assumeTrue(Arrays.stream(System.getenv("PATH").split(":")).noneMatch(it -> Files.exists(Paths.get(it, "testkit"))));
         RuntimeException fault = assertThrows(TestAbortedException.class, () -> RecordAssert.assertThat(record).keepsLifecycle());
         assertTrue(fault.getMessage().contains("\"testkit\""), fault.getMessage());
+        System.setProperty("testkit.required", "true");
+        assertThrows(IllegalStateException.class, () -> RecordAssert.assertThat(record).keepsLifecycle());
+    }
+
+    /** (There is one in the second run of {@code test_assert.py}, in which its sum is right, and in the third, in which it isn't.) */
+    @Test
+    void theProgramOfTheJarAnswers() throws IOException {
+        assumeTrue(RecordProgram.class.getResource(PACKED) != null);
+        RecordAssert.assertThat(record).keepsLifecycle();
+        Path program = RecordProgram.path();
+        assertEquals(program, RecordProgram.path());
+        assertEquals("rwx------", PosixFilePermissions.toString(Files.getPosixFilePermissions(program.getParent())));
+        Files.delete(program);
+        RecordAssert.assertThat(record).keepsLifecycle();
     }
 
     @Test
@@ -275,6 +325,13 @@ class RecordAssertTests {
         assertThrows(IllegalArgumentException.class, () -> asserting.matchesLoosely("test", null));
         assertThrows(IllegalArgumentException.class, () -> asserting.exclusive(null));
         assertThrows(IllegalArgumentException.class, () -> asserting.exclusive("test", null));
+        assertThrows(IllegalArgumentException.class, () -> asserting.on("failed(x)"));
+        Executable[] nulls = {() -> RecordAssert.assertThat(null), () -> asserting.describedAs(null), () -> asserting.on(null),
+            () -> asserting.exclusive(null), () -> hasName(null), () -> hasSegment("t", null), () -> ResultsAssert.assertThat(null)};
+        String[] names = {"record", "text", "events", "writers", "name", "value", "results"};
+        for (int i = 0; i < nulls.length; i++) {
+            assertEquals(names[i] + " is null", assertThrows(IllegalArgumentException.class, nulls[i]).getMessage());
+        }
         assertFalse(Files.exists(folder.resolve("program.words")));
     }
 
@@ -334,8 +391,9 @@ class RecordAssertTests {
         Path path = ResultsAssert.assertThat(results).keepsLifecycle().matchesLoosely("x").recordPath();
         assertEquals(path, ResultsAssert.assertThat(results).recordPath());
         List<String> lines = Files.readAllLines(folder.resolve("program.input"));
-        assertEquals(Arrays.asList("testkit-record|2", "N|C|[engine:e]|engine", "N|T|[engine:e]/[t:1]|one"), lines.subList(0, 3));
-        assertTrue(lines.get(3).matches("E[|]1[|]0[|][0-9]{16}[|]skip[|]off") && lines.size() == 4, lines.get(3));
+        assertEquals(Arrays.asList("testkit-record|3", "N|C|[engine:e]|engine", "N|T|[engine:e]/[t:1]|one"), lines.subList(0, 3));
+        assertTrue(lines.get(3).matches("E[|]1[|]0[|][0-9]{16}[|]skip[|]off"), lines.get(3));
+        assertEquals(Arrays.asList("Z|1"), lines.subList(4, lines.size()));
     }
 
     /** An engine's code, which runs while results are recorded, may wait for another thread that asserts something about others. */
@@ -360,7 +418,7 @@ class RecordAssertTests {
             }
         };
         Path path = ResultsAssert.assertThat(results((calls, root) -> calls.fail(root, waiting))).recordPath();
-        assertTrue(text(path).endsWith("|finish|fail|waits false\n"), text(path));
+        assertTrue(text(path).endsWith("|finish|fail|waits false\nZ|1\n"), text(path));
     }
 
     /** (The records of results that are not refused go when the process ends, which {@code test_assert.py} sees.) */
@@ -394,7 +452,9 @@ class RecordAssertTests {
                 calls.report(root, "k", String.join("", Collections.nCopies(60_000, "x")));
             }
         });
-        assertThrows(IllegalStateException.class, () -> ResultsAssert.assertThat(tooLong));
+        useTheProgram();
+        AssertionError fault = assertThrows(AssertionFailedError.class, () -> ResultsAssert.assertThat(tooLong).hasCount(0, isContainer()));
+        assertTrue(fault.getMessage().matches("(?s).*record is cut off after line [0-9]+; what stands before: .* recover < .*"), fault.getMessage());
     }
 
     /** Asks the program itself, at a yes and at a no of each method. */
@@ -420,6 +480,8 @@ class RecordAssertTests {
         assertRefused("no pair\n0 name(one)", () -> asserting.exclusive(hasName("one")));
         assertRefused("no 1 2", () -> asserting.exclusive(isTest()));
         assertRefused("no 1 2", () -> asserting.exclusive(hasName("two"), hasName("one")));
+        assertRefused("2 aborted", () -> asserting.matchesLoosely(hasName("three"), isTest(), wasAborted()));
+        assertRefused("no 2\n0 all(test,started)", () -> asserting.hasCount(3, all(isTest(), hasStarted())));
         RuntimeException fault = assertThrows(IllegalArgumentException.class, () -> asserting.matchesLoosely("test", "tests"));
         assertTrue(fault.getMessage().endsWith(" is refused: condition 1 is bad at 4"), fault.getMessage());
         Path none = Files.write(folder.resolve("none.record"), new byte[0]);
@@ -439,6 +501,7 @@ class RecordAssertTests {
     private Path withLocks(String text) {
         try {
             String locks = text.replace("record|2", "record|3").replaceFirst("\nE", "\nL|1|R|a\\\\pb\nL|2|W|a\\\\pb\nE");
+            locks += "Z|" + (locks.split("\nE").length - 1) + "\n";
             return Files.write(folder.resolve("locks.record"), locks.getBytes(UTF_8));
         } catch (IOException fault) {
             throw new UncheckedIOException(fault);

@@ -114,7 +114,8 @@ public class RunSamples {
                 }
             }
         };
-        LauncherConfig.Builder config = LauncherConfig.builder().enableTestExecutionListenerAutoRegistration(false);
+        LauncherConfig.Builder config = LauncherConfig.builder().enableTestExecutionListenerAutoRegistration(false)
+                .addPostDiscoveryFilters(new RecordLocks());
         if (which.equals("odd")) {
             config.enableTestEngineAutoRegistration(false).addTestEngines(new OddEngine());
         }

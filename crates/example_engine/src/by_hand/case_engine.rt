@@ -4,7 +4,7 @@
 ghost use Rattle.std.specs.Prelude.{◌≡◌, ◌+◌, [], ◌∷◌, length, ◌≤◌, slice_get, IfOk, IfSome, OnOk};
 ghost use Rattle.std.specs.Option.{option_copied};
 
-use crate::by_hand::descriptors::add;
+use crate::by_hand::even::add;
 use crate::by_hand::running::run_table;
 use crate::cases::{CaseTable, Function};
 use engine_testkit::{
@@ -89,7 +89,7 @@ impl<'a, F: Function + Sync> CaseEngine<'a, F> {
 }
 
 impl<F: Function + Sync> Engine for CaseEngine<'_, F> {
-    ghost use Rattle.engine_testkit.specs.Events.{finished, started};
+    ghost use Rattle.engine_testkit.specs.Emitted.{finished, started};
     ghost use Rattle.engine_testkit.specs.Outcome.TheVariants.{Successful};
     ghost use Rattle.example_engine.specs.Running.{IsTableRun};
 

@@ -1,18 +1,36 @@
-//! An engine of one test by hand: is a number even?
+//! An engine of one test by hand, a page to copy: is a number even?
 #![tactic(auto, using(engine_testkit::proofs::Emissions::emissions))]
 
-ghost use Rattle.std.specs.Prelude.{◌≡◌, ◌<◌, ◌%◌, ◌==◌, if◌then◌else◌, [], ◌∷◌, None, IfOk, length};
+ghost use Rattle.std.specs.Prelude.{◌≡◌, ◌<◌, ◌≤◌, ◌+◌, ◌%◌, ◌==◌, if◌then◌else◌, [], ◌∷◌, None, IfOk, OnOk, length};
 ghost use Rattle.std.specs.Arc.{arc_value};
-ghost use Rattle.engine_testkit.specs.Events.{finished, started};
+ghost use Rattle.engine_testkit.specs.Emitted.{finished, started};
 ghost use Rattle.engine_testkit.specs.Outcome.TheVariants.{Failed, Successful};
 
-use crate::by_hand::descriptors::add;
 use engine_testkit::{
-    BookSeat, DType, Engine, Event, Need, Outcome, Sink, Table, TableFault, UnitFault, finish,
-    finished, start, started,
+    BookSeat, DType, Engine, Event, Need, Outcome, Segment, Sink, Table, TableFault, UnitFault,
+    finish, finished, start, started,
 };
 use std::alloc::{AllocError, Global};
 use std::sync::{Arc, Wait};
+
+/// Adds a descriptor whose name is the value of its segment, and returns its key.
+pub(crate) fn add(
+    alloc: Global,
+    table: &mut Table,
+    parent: Option<u32>,
+    tag: &str,
+    name: &str,
+    dtype: DType,
+) -> Result<u32, TableFault>
+    ensures { OnOk result ((length table.new ≡ length table.old + 1)
+        × (length table.new ≤ 65536)) }
+{
+    let segment = match Segment::new(alloc, tag, name) {
+        Ok(segment) => segment,
+        Err(fault) => return Err(TableFault::Id(fault)),
+    };
+    table.add(alloc, parent, &segment, name, dtype)
+}
 
 /// Its test `[engine:even]/[test:number]` succeeds where the number is even.
 #[derive(Drop)]

@@ -4,7 +4,7 @@
 ghost use Rattle.std.specs.Prelude.{◌≡◌, [], ◌∷◌, length, IfOk, OnOk};
 ghost use Rattle.std.specs.Option.{option_copied};
 ghost use Rattle.engine_testkit.specs.Emitted.{Emitted, EmittedAs};
-ghost use Rattle.engine_testkit.specs.Events.{file_published, finished, reported, started};
+ghost use Rattle.engine_testkit.specs.Emitted.{file_published, finished, reported, started};
 ghost use Rattle.engine_testkit.specs.Grown.{Grew};
 ghost use Rattle.example_engine.specs.Running.{outcome_of, entry_of, path_of, last_events, IsCaseRun, AreCaseRuns, IsTableRun};
 

@@ -28,7 +28,9 @@ fn expect_events<R: Threads + Wait + Sync>(
 ) -> Result<(), Failure> {
     let engine = EvenEngine::new(alloc, number)?;
     let results = execute(rt, alloc, &engine, 1, 16)?;
-    Expect::of(alloc, results.recorded()).exactly(expected)?;
+    Expect::of(alloc, results.recorded())
+        .lifecycle()?
+        .exactly(expected)?;
     Ok(())
 }
 

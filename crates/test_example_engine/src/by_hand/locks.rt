@@ -1,43 +1,101 @@
 //! Two engines by hand whose tests declare one lock: one takes the lock, the other one forgets it.
+ghost use Rattle.std.specs.Arc.{arc_value};
+ghost use Rattle.engine_testkit.specs.Grown.{Grew};
+
 use engine_testkit::engine::Meeting;
 use engine_testkit::{
-    DType, Emitter, LockAnswer, LockMode, Need, UnitContext, UnitEngine, UnitFault, UnitTable,
-    Units, execute,
+    BookSeat, DType, Engine, Event, LockAnswer, Need, Outcome, Segment, Sink, Table, UnitFault,
+    execute, finish, start,
 };
-use std::alloc::Global;
-use std::sync::Wait;
+use example_engine::by_hand::add_locked_test;
+use std::alloc::{AllocError, Global};
+use std::sync::{Arc, Wait};
 use std::thread::Threads;
 use std::time::Duration;
 
-// Two tests, which wait for each other.
+// Two tests, a unit each, which wait for each other.
 #[derive(Drop)]
 struct TestsThatMeet {
     meeting: Meeting,
+    need: Need,
+    table: Arc<Table>,
 }
 
-impl Units for TestsThatMeet {
-    fn run<C: UnitContext>(&self, unit: u32, events: &mut Emitter<C>) -> Result<(), UnitFault> {
-        let key = unit.saturating_add(1);
-        events.start(key)?;
-        let _came = self.meeting.wait(events.rt());
-        events.succeed(key)
+// Runs a test, which waits for the other one.
+#[tactic(auto, using(engine_testkit::proofs::SinkGrowth::grew_trans))]
+fn run_test<R: Wait, S: Sink>(
+    rt: &R,
+    meeting: &Meeting,
+    key: u32,
+    sink: &mut S,
+) -> Result<(), UnitFault>
+    ensures { Grew (S.view sink.old) (S.view sink.new) }
+{
+    start(rt, key, 0, sink)?;
+    let _came = meeting.wait(rt);
+    finish(rt, key, 0, Outcome::Successful, sink)
+}
+
+impl Engine for TestsThatMeet {
+    ghost use Rattle.std.specs.Prelude.{[]};
+
+    ghost table = { λ e. arc_value e.table };
+
+    ghost units = { λ e. 2 };
+
+    ghost before = { λ e. [] };
+
+    ghost after = { λ e. [] };
+
+    ghost need = { λ e u. e.need };
+
+    ghost may = { λ e u w k l. Unit {0} };
+
+    fn table(&self) -> &Arc<Table> {
+        &self.table
+    }
+
+    fn units(&self) -> u32 {
+        2
+    }
+
+    fn before(&self, alloc: Global) -> Result<Vec<Event>, AllocError> {
+        Ok(Vec::new(alloc))
+    }
+
+    fn after(&self, alloc: Global) -> Result<Vec<Event>, AllocError> {
+        Ok(Vec::new(alloc))
+    }
+
+    fn need(&self, _unit: u32) -> Need {
+        self.need
+    }
+
+    fn run<R: Wait, S: Sink>(
+        &self,
+        rt: &R,
+        _alloc: Global,
+        unit: u32,
+        _seat: &BookSeat,
+        sink: &mut S,
+    ) -> Result<(), UnitFault> {
+        run_test(rt, &self.meeting, unit.saturating_add(1), sink)
     }
 }
 
-// Adds a test that writes `db` by what its table says, and needs this.
-fn add_test(alloc: Global, table: &mut UnitTable, value: &str, need: Need) -> Option<()> {
-    let key = table.add(alloc, 0, ("t", value), value, DType::Test).ok()?;
-    table.lock(alloc, key, "db", LockMode::ReadWrite).ok()?;
-    table.add_unit(need).ok()
-}
-
-// The engine of two such tests, each of which waits at most so long.
-fn engine(alloc: Global, need: Need, longest: Duration) -> Option<UnitEngine<TestsThatMeet>> {
-    let mut table = UnitTable::new(alloc, ("engine", "e"), "e").ok()?;
-    add_test(alloc, &mut table, "1", need)?;
-    add_test(alloc, &mut table, "2", need)?;
-    let meeting = Meeting::new(longest);
-    UnitEngine::new(alloc, table, TestsThatMeet { meeting }).ok()
+// The engine of two such tests, each of which waits at most so long, and needs this.
+fn engine(alloc: Global, need: Need, longest: Duration) -> Option<TestsThatMeet> {
+    let mut table = Table::new(alloc);
+    let root = Segment::new(alloc, "engine", "e").ok()?;
+    table.add(alloc, None, &root, "e", DType::Container).ok()?;
+    add_locked_test(alloc, &mut table, 0, "1").ok()?;
+    add_locked_test(alloc, &mut table, 0, "2").ok()?;
+    let (meeting, table) = (Meeting::new(longest), Arc::new(alloc, table).ok()?);
+    Some(TestsThatMeet {
+        meeting,
+        need,
+        table,
+    })
 }
 
 // What a run by two workers says of the locks.
@@ -54,7 +112,7 @@ fn answer<R: Threads + Wait + Sync>(
 #[test]
 fn a_forgotten_lock_is_found(rt: HostRuntime) {
     let found = answer(&rt, rt.alloc(), Need::none(), Duration::from_secs(20));
-    assert!(rt; matches!(&found, Some(LockAnswer::No(1, 2, name)) if name.as_str() == "db"));
+    assert!(rt; matches!(&found, Some(LockAnswer::No(0, 1, name)) if name.as_str() == "db"));
 }
 
 #[test]

@@ -8,8 +8,8 @@ use Rattle.tk_queue_session.specs.declared.limits.TheConstants.{MAX_CAPACITY}
 use Rattle.tk_queue_session.specs.Emission.{entries_by}
 use Rattle.tk_queue_session.specs.Receivers.{fresh_receiver}
 use Rattle.tk_queue_session.specs.Limits.{capacity_of}
-use Rattle.tk_engine_execute.specs.declared.event_collectors.EventCollector.{EventCollector}
-use Rattle.tk_engine_execute.specs.declared.prepared_runs.PreparedRun.{PreparedRun}
+use Rattle.tk_engine_execute.specs.declared.runs.collectors.EventCollector.{EventCollector}
+use Rattle.tk_engine_execute.specs.declared.runs.prepared.PreparedRun.{PreparedRun}
 use Rattle.tk_engine_execute.specs.Engines.{AreOfWorkerZero}
 use Rattle.tk_engine_execute.specs.steps.WorkerParts.{HasRoomFor}
 use Rattle.tk_engine_execute.specs.steps.Workers.{shared_parts, AreUnstarted}

@@ -1,10 +1,10 @@
 -- What the workers of a run have left, part by part.
 use Rattle.std.specs.Prelude.{◌≡◌, ℕ, ◌≤◌, List, [], ◌∷◌, map, Option, None, vec_capacity}
 use Rattle.std.specs.Option.{option_or}
-use Rattle.tk_engine_runs.specs.Claims.{ClaimSeatView}
+use Rattle.tk_claims.specs.Claims.{ClaimSeatView}
 use Rattle.tk_queue_session.specs.Senders.{SenderView}
-use Rattle.tk_engine_execute.specs.declared.worker_parts.WorkerParts.{WorkerParts}
-use Rattle.tk_engine_execute.specs.declared.workers.FailedUnit.{FailedUnit}
+use Rattle.tk_engine_execute.specs.declared.workers.parts.WorkerParts.{WorkerParts}
+use Rattle.tk_engine_execute.specs.declared.engines.UnitFault.{UnitFault}
 use Rattle.tk_engine_execute.specs.declared.workers.WorkerEnd.{WorkerEnd}
 
 -- the tokens of these ends
@@ -16,7 +16,7 @@ abbrev pub seats_in : List WorkerEnd → List ClaimSeatView
 seats_in os = map (λ (o : WorkerEnd). o.claim_seat) os
 
 -- the first failure of these ends
-abbrev pub first_failure : List WorkerEnd → Option FailedUnit
+abbrev pub first_failure : List WorkerEnd → Option (ℕ × UnitFault)
 first_failure [] = None
 first_failure (o ∷ os) = option_or o.failure (first_failure os)
 

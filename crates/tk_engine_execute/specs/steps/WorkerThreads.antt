@@ -1,7 +1,7 @@
 -- The workers of a run, before their threads start and after all threads were joined.
 use Rattle.std.specs.Prelude.{◌≡◌, ℕ, ◌<◌, ◌≤◌, true, false, length, vec_len, vec_capacity}
-use Rattle.tk_engine_execute.specs.declared.unstarted_workers.UnstartedWorkers.{UnstartedWorkers}
-use Rattle.tk_engine_execute.specs.declared.worker_threads.Collected.{Collected}
+use Rattle.tk_engine_execute.specs.declared.workers.unstarted.UnstartedWorkers.{UnstartedWorkers}
+use Rattle.tk_engine_execute.specs.declared.workers.threads.Collected.{Collected}
 use Rattle.tk_engine_execute.specs.steps.EventCollectors.{TookMore, CanCollect, NoneIsAwaited}
 use Rattle.tk_engine_execute.specs.steps.Workers.{SharedParts, RunUnits, AreUnstarted, AllDone}
 use Rattle.tk_engine_execute.specs.steps.Workers.{AreDone}

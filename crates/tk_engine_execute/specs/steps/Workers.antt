@@ -7,15 +7,15 @@ use Rattle.tk_ids.specs.declared.descriptors.Descriptor.{Descriptor}
 use Rattle.tk_events.specs.declared.events.Event.{Event}
 use Rattle.tk_record.specs.Mixing.{IsWorkerOf}
 use Rattle.tk_locks.specs.Books.{BookView, empty}
-use Rattle.tk_engine_runs.specs.Claims.{ClaimView, ClaimSeatView, fresh}
+use Rattle.tk_claims.specs.Claims.{ClaimView, ClaimSeatView, fresh}
 use Rattle.tk_queue_session.specs.Senders.{SenderView, fresh_senders}
-use Rattle.tk_engine_runs.specs.Run.{Emits}
+use Rattle.tk_claims.specs.Run.{Emits}
 use Rattle.tk_engine_execute.specs.Engines.{MayFail}
 use Rattle.tk_engine_execute.specs.Work.{StoppedAt}
 use Rattle.tk_engine_execute.specs.declared.engines.UnitFault.{UnitFault}
 use Rattle.tk_engine_execute.specs.declared.workers.WorkerHandles.{WorkerHandles}
 use Rattle.tk_engine_execute.specs.declared.workers.WorkerEnd.{WorkerEnd}
-use Rattle.tk_engine_execute.specs.declared.unstarted_workers.UnstartedWorkers.{UnstartedWorkers}
+use Rattle.tk_engine_execute.specs.declared.workers.unstarted.UnstartedWorkers.{UnstartedWorkers}
 
 -- what all workers of a run share: the claim on its units, its book, and the table of its engine
 pub record SharedParts : Type 0 where
@@ -61,8 +61,8 @@ pub record IsDone (units : RunUnits) (session : TableId) (w : ℕ) (o : WorkerEn
   pub claim_is : o.claim_seat.claim ≡ units.claim
   pub all : o.failure ≡ None → o.claim_seat.spent ≡ true
   pub emits : o.failure ≡ None → Emits units.may w 0 o.claim_seat.numbers o.ended.sent
-  pub failed : IfSome o.failure (λ f. units.fails f.unit f.why)
-  pub stopped : IfSome o.failure (λ f. IsStopped units.may o.ended o.claim_seat f.unit)
+  pub failed : IfSome o.failure (λ f. units.fails f.0 f.1)
+  pub stopped : IfSome o.failure (λ f. IsStopped units.may o.ended o.claim_seat f.0)
 
 -- the senders and seats of the workers 1, 2, .., who have done nothing
 pub record AreUnstarted (session : TableId) (shared : SharedParts) (c : UnstartedWorkers)

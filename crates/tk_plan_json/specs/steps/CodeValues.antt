@@ -7,12 +7,12 @@ use Rattle.serde_json.specs.View.{view}
 use Rattle.tk_ids.specs.IdText.{SegmentView}
 use Rattle.tk_ids.specs.declared.id_faults.IdFault.{IdFault}
 use Rattle.tk_ids.specs.declared.id_faults.IdFault.TheVariants as id_faults
-use Rattle.tk_plan_json_members.specs.Checks.{member_at}
+use Rattle.tk_plan_json.specs.Checks.{member_at}
 use Rattle.tk_plan_json.specs.NodeInputs as spec
-use Rattle.tk_plan_json_members.specs.Pointers.{pointer}
-use Rattle.tk_plan_json_members.specs.declared.faults.PlanFault.{PlanFault}
-use Rattle.tk_plan_json_members.specs.declared.faults.PlanFault.TheVariants.{Id, Memory}
-use Rattle.tk_plan_json_members.specs.declared.member_values.TwoTexts.{TwoTexts}
+use Rattle.tk_plan_json.specs.Pointers.{pointer}
+use Rattle.tk_plan_json.specs.declared.faults.PlanFault.{PlanFault}
+use Rattle.tk_plan_json.specs.declared.faults.PlanFault.TheVariants.{Id, Memory}
+use Rattle.tk_plan_json.specs.declared.members.member_values.TwoTexts.{TwoTexts}
 use Rattle.tk_plan_json.specs.declared.read_nodes.Named.{Named}
 use Rattle.tk_plan_json.specs.declared.node_inputs.BelowMember.{BelowMember}
 use Rattle.tk_plan_json.specs.declared.node_inputs.BelowMember.TheVariants.{Children, Dynamic}

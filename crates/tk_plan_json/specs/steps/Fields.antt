@@ -4,16 +4,16 @@ use Rattle.std.specs.Prelude.{Some, None, Result, Ok, Err}
 use Rattle.serde_json.specs.Data.{Data}
 use Rattle.serde_json.specs.Find.{get}
 use Rattle.serde_json.specs.View.{view}
-use Rattle.tk_plan_json_members.specs.Checks.{Row}
-use Rattle.tk_plan_json_members.specs.Contents.{json_text, json_optional, json_dtype}
-use Rattle.tk_plan_json_members.specs.Contents.{json_outcome, listed}
-use Rattle.tk_plan_json_members.specs.Rows.{dtype_row, segment_row, name_row, mode_row}
-use Rattle.tk_plan_json_members.specs.Rows.{isolated_row, locks_row, skip_row, result_row}
-use Rattle.tk_plan_json_members.specs.Rows.{entries_row, files_rows, children_row, dynamic_row}
+use Rattle.tk_plan_json.specs.Checks.{Row}
+use Rattle.tk_plan_json.specs.Contents.{json_text, json_optional, json_dtype}
+use Rattle.tk_plan_json.specs.Contents.{json_outcome, listed}
+use Rattle.tk_plan_json.specs.Rows.{dtype_row, segment_row, name_row, mode_row}
+use Rattle.tk_plan_json.specs.Rows.{isolated_row, locks_row, skip_row, result_row}
+use Rattle.tk_plan_json.specs.Rows.{entries_row, files_rows, children_row, dynamic_row}
 use Rattle.tk_plan_json.specs.NodeInputs.{concurrent_of, isolated_of, locks_of, children_of}
 use Rattle.tk_plan_json.specs.NodeInputs.{dynamic_of}
-use Rattle.tk_plan_json_members.specs.Pointers.{viewed, IsPairOf}
-use Rattle.tk_plan_json_members.specs.MemberValues.{AreReports, AreFiles}
+use Rattle.tk_plan_json.specs.Pointers.{viewed, IsPairOf}
+use Rattle.tk_plan_json.specs.MemberValues.{AreReports, AreFiles}
 use Rattle.tk_plan_json.specs.declared.node_fields.Heading.{Heading}
 use Rattle.tk_plan_json.specs.declared.node_fields.Concurrency.{Concurrency}
 use Rattle.tk_plan_json.specs.declared.node_fields.Content.{Content}
@@ -24,9 +24,9 @@ use Rattle.tk_plan_json.specs.declared.read_nodes.Named.{Named}
 use Rattle.tk_ids.specs.IdText.{SegmentView}
 use Rattle.tk_plan_json.specs.Verdicts.{at_node}
 use Rattle.tk_plan_json.specs.declared.node_faults.NodeFault.{NodeFault}
-use Rattle.tk_plan_json_members.specs.Refusals.{IsFault}
-use Rattle.tk_plan_json_members.specs.declared.faults.PlanFault.{PlanFault}
-use Rattle.tk_plan_json_members.specs.declared.faults.PlanFault.TheVariants.{Memory}
+use Rattle.tk_plan_json.specs.Refusals.{IsFault}
+use Rattle.tk_plan_json.specs.declared.faults.PlanFault.{PlanFault}
+use Rattle.tk_plan_json.specs.declared.faults.PlanFault.TheVariants.{Memory}
 
 -- the members that each node has to have
 abbrev pub heading_rows : List Row

@@ -19,9 +19,9 @@ use Rattle.tk_plan_json.specs.Verdicts.{is_kind, same_segment, located, when}
 use Rattle.tk_plan_json.specs.steps.Fields.{has_no_below}
 use Rattle.tk_plan_json.specs.NodeInputs.{NodeInput, segment_of, id_of, node_of, below, grown}
 use Rattle.tk_plan_json.specs.NodeInputs.{node_inputs}
-use Rattle.tk_plan_json_members.specs.declared.faults.PlanFault.{PlanFault}
-use Rattle.tk_plan_json_members.specs.declared.faults.PlanFault.TheVariants.{Table}
-use Rattle.tk_plan_json_members.specs.declared.faults.PlanFault.TheVariants.{TooManyResources}
+use Rattle.tk_plan_json.specs.declared.faults.PlanFault.{PlanFault}
+use Rattle.tk_plan_json.specs.declared.faults.PlanFault.TheVariants.{Table}
+use Rattle.tk_plan_json.specs.declared.faults.PlanFault.TheVariants.{TooManyResources}
 use Rattle.tk_plan_json.specs.declared.node_faults.NodeFault.{NodeFault}
 use Rattle.tk_plan_json.specs.declared.read_nodes.ReadNodes.{ReadNodes}
 use Rattle.tk_plan_json.specs.declared.read_nodes.Checked.{Checked}

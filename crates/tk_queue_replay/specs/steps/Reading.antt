@@ -4,7 +4,7 @@ use Rattle.tk_ids.specs.declared.descriptors.Descriptor.{Descriptor}
 use Rattle.tk_events.specs.declared.events.Entry.{Entry}
 use Rattle.tk_record.specs.Lines.{with_line_feed}
 use Rattle.tk_record_text.specs.Text.{nodes_text, entries_text}
-use Rattle.tk_record_text.specs.NodeLines.{LacksNodeStart}
+use Rattle.tk_record_text.specs.NodeLines.{LacksNodeLine}
 use Rattle.tk_queue_replay.specs.declared.turns.Turn.{Turn}
 use Rattle.tk_queue_replay.specs.declared.replays.ReplayFault.{ReplayFault}
 use Rattle.tk_queue_replay.specs.declared.replays.ReplayFault.TheVariants as faults
@@ -20,7 +20,7 @@ pub record IsEntriesPrefix (head : TextHead) (input : List ℕ) (entries : List 
     (rest : List ℕ) : Type 0 where
   pub prefix : input ≡ entries_text entries ++ rest
   pub own : AreOwn head entries
-  pub no_node : entries ≡ [] → LacksNodeStart rest
+  pub no_node : entries ≡ [] → LacksNodeLine rest
   pub no_entry : LacksEntryStart rest
 
 -- the fault of the line with the number of workers

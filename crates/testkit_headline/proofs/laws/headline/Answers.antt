@@ -1,7 +1,7 @@
 use Rattle.testkit_headline.proofs.Sessions.{mixes, nothing_after}
-use Rattle.testkit_headline.proofs.Runs.{holds}
 use Rattle.testkit_headline.proofs.Records.{counts, filters, yes_exactly, reported}
 use Rattle.tk_locks.specs.LockWord.{holdings}
+use Rattle.tk_queue_core.specs.Core.{entries}
 use Rattle.testkit_headline.proofs.laws.headline.Goals as goal
 
 pub returns : goal.returns
@@ -10,7 +10,11 @@ returns c = record {
       mixes s.layout.workers s.core s.lawful completes;
   nothing_of_a_worker_after_its_end_mark = λ items views s.
       nothing_after s.layout.workers s.core s.lawful;
-  a_runs_record_holds_those_events = holds c.each_worker_has_its_list.ensures;
+  a_runs_record_holds_those_events = λ items views s before after r completes whole. record {
+    mid = entries s.core.taken;
+    whole = whole;
+    mix = mixes s.layout.workers s.core s.lawful completes;
+  };
   every_statistic_equals_plain_counting = counts;
   every_selection_equals_plain_filtering = filters;
   match_says_yes_exactly_where_its_conditions_hold = yes_exactly;

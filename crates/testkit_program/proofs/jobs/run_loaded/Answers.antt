@@ -8,7 +8,7 @@ returns-clause-loaded g c =
     let bytes = c.in-Ok.bytes.items in
     let ran = subst (λ (text : List ℕ). IsPlanRun text c.args.options.workers c.run_plan-run.result) c.as_slice.ensures.value c.run_plan-run.ensures in
     rw c.in-Ok.is (plan_outcome bytes c.args.options (g.T.Target.contents c.args.target.now) (g.T.Target.contents c.write_run.new.target) c.run_plan-run.result c.write_run.result ran
-    c.write_run.ensures.not_run c.write_run.ensures.run)
+    c.write_run.ensures.not_run c.write_run.ensures.has_output c.write_run.ensures.run)
 
 pub returns-clause-device : goal.returns-clause-device
 returns-clause-device g c =

@@ -31,13 +31,20 @@ finish-requires-clause-collected g c κs within =
     let start = c.in-Ok.ensures in
     is_collected (run_units c.in-Ok.start.claim (g.E.Engine.may c.args.engine.now) (g.E.Engine.units c.args.engine.now) (g.E.Engine.fails c.args.engine.now)) c.args.workers _ _ _ _ c.requires.workers.some refl start.collector start.many c.run_workers-collected.ensures
 
-pub returns-in-Err-clause-failed : goal.returns-in-Err-clause-failed
-returns-in-Err-clause-failed g c =
-    let made = c.without_record.ensures in
-    let memory : c.without_record.result.fault ≡ Memory = made.fault in
-    nothing_recorded _ c.args.workers c.without_record.result made.recorded (λ unit why is. let clash : Memory ≡ Engine unit why = sym memory ∙ is in cc)
+pub returns-in-Err-clause-answer : goal.returns-in-Err-clause-answer
+returns-in-Err-clause-answer g c =
+    let made = c.without_record.ensures in record {
+      run = tt;
+      tally = tt;
+      of_capacity = tt;
+      failed = nothing_recorded _ c.args.workers c.without_record.result made.recorded made.closed (λ unit why is. let clash : Memory ≡ Engine unit why = sym made.fault ∙ is in cc);
+    }
 
-pub returns-clause-of_capacity : goal.returns-clause-of_capacity
-returns-clause-of_capacity g c =
-    let asked = c.in-Ok.ensures.collector.of_capacity in
-    IfOk-weaker c.finish.result _ (λ (r : RunResults). capacity_of r.closed.session ≡ c.args.capacity) (λ r same. ap (λ s. capacity_of s) (same ∙ c.run_workers-collected.ensures.took_more.session) ∙ asked) c.finish.ensures.session
+pub returns-clause-answer : goal.returns-clause-answer
+returns-clause-answer g c =
+    let asked = c.in-Ok.ensures.collector.of_capacity in record {
+      run = c.finish.ensures.run;
+      tally = c.finish.ensures.tally;
+      of_capacity = IfOk-weaker c.finish.result _ (λ (r : RunResults). capacity_of r.closed.session ≡ c.args.capacity) (λ r same. ap (λ s. capacity_of s) (same ∙ c.run_workers-collected.ensures.took_more.session) ∙ asked) c.finish.ensures.session;
+      failed = c.finish.ensures.failed;
+    }

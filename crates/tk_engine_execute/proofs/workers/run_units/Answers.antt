@@ -1,7 +1,7 @@
 use Rattle.std.proofs.Common.{◌≡◌, ◌+◌, ◌<◌, ◌∷◌, [], ◌++◌, sym, ap, subst, ◌∙◌, zero-add}
 use Rattle.tk_queue_session.specs.Emission.{registrations}
-use Rattle.tk_engine_runs.specs.Claims.{ClaimSeatView}
-use Rattle.tk_engine_runs.specs.Run.{Emits}
+use Rattle.tk_claims.specs.Claims.{ClaimSeatView}
+use Rattle.tk_claims.specs.Run.{Emits}
 use Rattle.tk_engine_execute.proofs.Emitted.{emits_more}
 use Rattle.tk_engine_execute.proofs.workers.run_units.Goals as goal
 

@@ -1,5 +1,5 @@
 use Rattle.std.proofs.Common.{◌≡◌, None}
-use Rattle.tk_engine_runs.specs.Run.{Emits}
+use Rattle.tk_claims.specs.Run.{Emits}
 use Rattle.tk_engine_execute.specs.Engines.{IsSameSender}
 use Rattle.tk_engine_execute.proofs.workers.run_units.Given as goal
 

@@ -6,7 +6,7 @@ use Rattle.tk_record.specs.Recorded.{Recorded}
 use Rattle.tk_query_lifecycle.specs.Lifecycle.{IsLifecycle}
 use Rattle.tk_query_lifecycle.specs.NeverRan.{EachDueKeyRuns}
 use Rattle.tk_query_lifecycle.specs.declared.lifecycle_rules.Lifecycle.TheVariants.{Kept}
-use Rattle.tk_plan_laws.proofs.Turns.{long_ids}
+use Rattle.tk_run_laws.proofs.Turns.{long_ids}
 use Rattle.tk_engine_hierarchical.proofs.DueKeys.{due_keys_run}
 use Rattle.tk_engine_hierarchical.proofs.laws.due_keys_run.Goals as goal
 

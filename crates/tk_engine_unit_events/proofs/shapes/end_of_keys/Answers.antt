@@ -1,6 +1,6 @@
 use Rattle.std.proofs.Common.{◌+◌, ◌-◌, ◌^◌, ◌∷◌, min, sym, ap, ◌∙◌}
 use Rattle.std.proofs.lemmas.List.{take_all}
-use Rattle.tk_plan_laws.specs.Spines.{count_static}
+use Rattle.tk_run_laws.specs.Spines.{count_static}
 use Rattle.tk_engine_unit_events.proofs.UnitsOfKeys.{end_is, ends_more}
 use Rattle.tk_engine_unit_events.proofs.shapes.end_of_keys.Goals as goal
 

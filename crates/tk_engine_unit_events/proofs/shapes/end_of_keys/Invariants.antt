@@ -1,5 +1,5 @@
 use Rattle.std.proofs.Common.{◌≡◌, ◌+◌, ◌-◌, ◌^◌, ◌∷◌, min, take}
-use Rattle.tk_plan_laws.specs.Spines.{count_static}
+use Rattle.tk_run_laws.specs.Spines.{count_static}
 use Rattle.tk_engine_unit_events.proofs.shapes.end_of_keys.Given as goal
 
 abbrev pub invariant-loop-numbered_node : goal.invariant-loop-numbered_node

@@ -32,10 +32,10 @@ returns c =
     ∙ ap (λ (ps : List ℕ). c.args.rows.now.items ++ found_rows 0 cs ps)
     c.as_slice-2.ensures.value in
     on_ok c.add_nearest.result _ _
-    (λ last. stuck_added c.args.events.now cs k x c.in_ok-found.found.items c.in_ok-near.near
+    (λ last. stuck_added c.args.events.now cs k x c.in_ok-found.found.items c.nearest-near.result
     c.copied-last_found.result c.last_fit.result c.after.result c.«record».result.now
     c.args.rows.now.items c.add_found.new.rows.items c.add_condition.new.rows.items
     c.add_early.new.rows.items c.add_nearest.new.rows.items has c.in_ok-found.ensures is
-    c.after.ensures.value c.last_fit.ensures c.in_ok-near.ensures c.«record».ensures one
+    c.after.ensures.value c.last_fit.ensures c.nearest-near.ensures c.«record».ensures one
     c.in_ok-add_condition.ensures c.in_ok-add_early.ensures last)
     c.add_nearest.ensures

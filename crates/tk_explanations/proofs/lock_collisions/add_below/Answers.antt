@@ -1,13 +1,14 @@
-use Rattle.std.proofs.Common.{ap, ◌∙◌, ◌∷◌, [], ◌++◌, refl}
-use Rattle.tk_explanations.specs.LockCollisions.{holding_row}
+use Rattle.std.proofs.Common.{ℕ, List, ap}
+use Rattle.tk_streams.proofs.PieceLemmas.{on_ok}
+use Rattle.tk_explanations.specs.Collisions.{overlap_rows}
+use Rattle.tk_explanations.specs.declared.rows.Row.TheVariants.{OverlapOver}
 use Rattle.tk_explanations.proofs.lock_collisions.add_below.Goals as goal
 
-pub returns-in_ok-add_holding-in-NoPair : goal.returns-in_ok-add_holding-in-NoPair
-returns-in_ok-add_holding-in-NoPair c =
-    let recorded = c.args.events.now.recorded in
-    let list = c.in_ok-list-in-NoPair.list in
-    rw c.in-NoPair.is (
-      holding_row recorded list ∷ [],
-      (list, c.in_ok-list-in-NoPair.ensures, refl),
-      c.in_ok-add_holding-in-NoPair.ensures ∙ ap (λ r. c.args.rows.now.items ++ holding_row r list ∷ []) c.«record».ensures,
-    )
+pub returns-in_ok-try_clone-in-No : goal.returns-in_ok-try_clone-in-No
+returns-in_ok-try_clone-in-No c =
+    let r = c.args.events.now.recorded in
+    let x = c.in_ok-one-in-No.one in
+    let y = c.in_ok-one-in-No.other in
+    let starts = c.in_ok-one-in-No.ensures in
+    let same = ap (λ (name : List ℕ). overlap_rows r x y (OverlapOver x y name)) c.in_ok-try_clone-in-No.ensures in
+    rw c.in-No.is (on_ok c.add_overlap.result _ _ (λ added. (_, (x, y, starts.0, starts.1, same), added)) c.add_overlap.ensures)

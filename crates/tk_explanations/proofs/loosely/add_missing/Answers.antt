@@ -12,7 +12,7 @@ returns c =
     let has = slice_get_read cs (length cs) k x refl
     (slice_get_within cs k _ c.requires.condition_is) c.index-conditions-number.is in
     on_ok c.add_nearest.result _ _
-    (λ last. missing_added c.args.events.now cs k x c.in_ok-near.near c.«record».result.now
+    (λ last. missing_added c.args.events.now cs k x c.nearest-near.result c.«record».result.now
     c.args.rows.now.items c.add_condition.new.rows.items c.add_nearest.new.rows.items has
-    c.in_ok-near.ensures c.«record».ensures c.in_ok-add_condition.ensures last)
+    c.nearest-near.ensures c.«record».ensures c.in_ok-add_condition.ensures last)
     c.add_nearest.ensures

@@ -2,7 +2,7 @@ use Rattle.std.proofs.Common.{◌≡◌, ◌++◌, ◌∷◌, [], ◌≤◌, len
 use Rattle.std.proofs.lemmas.Result.{err_from_is_err_and}
 use Rattle.tk_plan.specs.Keys.{note_locks}
 use Rattle.tk_plan.specs.Trees.{contents}
-use Rattle.tk_plan_json_members.specs.Checks.{first}
+use Rattle.tk_plan_json.specs.Checks.{first}
 use Rattle.tk_plan_json.specs.Verdicts.{id_fault}
 use Rattle.tk_plan_json.specs.steps.Progress.{addition, room_checks}
 use Rattle.tk_plan_json.specs.steps.CodeValues.{seen, json_segment_text}
@@ -10,7 +10,7 @@ use Rattle.tk_plan_json.specs.NodeInputs as spec
 use Rattle.tk_plan_json.specs.NodeInputs.{node_of, segment_of}
 use Rattle.tk_plan_json.proofs.CheckSteps.{Passes, faults_also, repeat_fault, id_fault_here, room_verdict, keys_as}
 use Rattle.tk_plan_json.proofs.node_checks.check_fields.Goals as goal
-use Rattle.tk_plan_json_members.specs.declared.faults.PlanFault.TheVariants.{Id}
+use Rattle.tk_plan_json.specs.declared.faults.PlanFault.TheVariants.{Id}
 
 pub returns-then-fields : goal.returns-then-fields
 returns-then-fields c =

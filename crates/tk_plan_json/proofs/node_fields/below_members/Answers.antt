@@ -1,8 +1,8 @@
 use Rattle.std.proofs.Common.{◌∙◌}
 use Rattle.std.proofs.lemmas.Result.{err_from_is_err_and}
 use Rattle.serde_json.specs.View.{view}
-use Rattle.tk_plan_json_members.specs.Rows.{children_row, dynamic_row}
-use Rattle.tk_plan_json_members.proofs.HandedFaults.{refuses_whole}
+use Rattle.tk_plan_json.specs.Rows.{children_row, dynamic_row}
+use Rattle.tk_plan_json.proofs.HandedFaults.{refuses_whole}
 use Rattle.tk_plan_json.proofs.Groups.{passes, stops, row_found}
 use Rattle.tk_plan_json.proofs.node_fields.below_members.Goals as goal
 

@@ -1,12 +1,12 @@
 use Rattle.std.proofs.Common.{◌≡◌, ◌==◌, length, ap, ◌∙◌, refl}
 use Rattle.std.proofs.lemmas.Result.{err_from_is_err_and}
 use Rattle.serde_json.specs.View.{view}
-use Rattle.tk_plan_json_members.specs.Checks.{row}
-use Rattle.tk_plan_json_members.specs.Contents.{listed}
-use Rattle.tk_plan_json_members.specs.Pointers.{pointer, wrong_at}
-use Rattle.tk_plan_json_members.specs.Rows.{dynamic_row}
-use Rattle.tk_plan_json_members.specs.declared.json_paths.JsonPath.{JsonPath}
-use Rattle.tk_plan_json_members.proofs.HandedFaults.{refuses_whole}
+use Rattle.tk_plan_json.specs.Checks.{row}
+use Rattle.tk_plan_json.specs.Contents.{listed}
+use Rattle.tk_plan_json.specs.Pointers.{pointer, wrong_at}
+use Rattle.tk_plan_json.specs.Rows.{dynamic_row}
+use Rattle.tk_plan_json.specs.declared.members.json_paths.JsonPath.{JsonPath}
+use Rattle.tk_plan_json.proofs.HandedFaults.{refuses_whole}
 use Rattle.tk_plan_json.proofs.Groups.{passes, stops, dynamic_groups, row_found}
 use Rattle.tk_plan_json.specs.steps.Fields.{AreMembers}
 use Rattle.tk_plan_json.specs.declared.node_members.NodeMembers.{NodeMembers}

@@ -1,8 +1,8 @@
 use Rattle.std.proofs.Common.{◌∙◌}
 use Rattle.std.proofs.lemmas.Result.{err_from_is_err_and}
 use Rattle.serde_json.specs.View.{view}
-use Rattle.tk_plan_json_members.specs.Pointers.{pointer}
-use Rattle.tk_plan_json_members.proofs.HandedFaults.{refuses_whole}
+use Rattle.tk_plan_json.specs.Pointers.{pointer}
+use Rattle.tk_plan_json.proofs.HandedFaults.{refuses_whole}
 use Rattle.tk_plan_json.proofs.Groups.{passes, stops, static_groups}
 use Rattle.tk_plan_json.proofs.node_fields.static_fields.Goals as goal
 

@@ -6,7 +6,7 @@ use Rattle.serde_json.specs.View.{view}
 use Rattle.serde_json.specs.declared.value.Value.{Value}
 use Rattle.tk_plan.specs.declared.trees.nodes.Node.{Node}
 use Rattle.tk_plan.specs.Trees.{contents}
-use Rattle.tk_plan_json_members.specs.Checks.{item_at, first}
+use Rattle.tk_plan_json.specs.Checks.{item_at, first}
 use Rattle.tk_plan_json.specs.Verdicts.{checks, at_node, FaultsAt}
 use Rattle.tk_plan_json.specs.steps.Fields.{as_node_fault}
 use Rattle.tk_plan_json.specs.Progress.{IsNoted}

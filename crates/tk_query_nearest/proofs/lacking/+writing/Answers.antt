@@ -1,7 +1,7 @@
 use Rattle.std.proofs.Common.{◌≡◌, string_bytes, subst, OnOk}
 use Rattle.tk_record.specs.Record.{entry_of_view}
 use Rattle.tk_query_nearest.specs.Members.{lacking}
-use Rattle.tk_query_nearest.specs.steps.Candidates.{appended}
+use Rattle.tk_query_nearest.specs.steps.{appended}
 use Rattle.tk_query_nearest.proofs.TakenLemmas.{all_is, lacking_taken}
 use Rattle.tk_query_nearest.proofs.lacking.+writing.Goals as goal
 

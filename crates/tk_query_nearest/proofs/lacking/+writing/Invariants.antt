@@ -3,7 +3,7 @@ use Rattle.tk_record.specs.Record.{entry_of_view}
 use Rattle.tk_query_conditions.specs.Cond.{All, Nothing}
 use Rattle.tk_query_conditions.specs.steps.Reader.{conds_from}
 use Rattle.tk_query_nearest.specs.Members.{lacking}
-use Rattle.tk_query_nearest.specs.steps.Candidates.{appended}
+use Rattle.tk_query_nearest.specs.steps.{appended}
 use Rattle.tk_query_nearest.proofs.lacking.+writing.Given as goal
 
 abbrev pub invariant-push_lacking_of_all-loop-member : goal.invariant-push_lacking_of_all-loop-member

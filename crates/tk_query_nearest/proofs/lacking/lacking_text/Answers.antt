@@ -2,7 +2,7 @@ use Rattle.std.proofs.Common.{ap, ◌∙◌}
 use Rattle.tk_record.specs.Record.{entry_of_view}
 use Rattle.tk_query_conditions.specs.CondOf.{cond_of}
 use Rattle.tk_query_nearest.specs.Members.{lacking}
-use Rattle.tk_query_nearest.specs.steps.Candidates.{appended}
+use Rattle.tk_query_nearest.specs.steps.{appended}
 use Rattle.tk_query_nearest.proofs.WritingLemmas.{appended_joined}
 use Rattle.tk_query_nearest.proofs.lacking.lacking_text.Goals as goal
 

@@ -1,4 +1,4 @@
-use Rattle.tk_query_nearest.proofs.MemberLemmas.{lacking_exact}
+use Rattle.tk_query_nearest.proofs.ElementLemmas.{lacking_exact}
 use Rattle.tk_query_nearest.proofs.laws.lacking_is_exact.Goals as goal
 
 pub returns : goal.returns

@@ -1,4 +1,4 @@
-use Rattle.tk_query_nearest.proofs.PartLemmas.{none_missing}
+use Rattle.tk_query_nearest.proofs.HoldingLemmas.{none_missing}
 use Rattle.tk_query_nearest.proofs.laws.none_missing_holds.Goals as goal
 
 pub returns : goal.returns

@@ -1,21 +1,19 @@
-use Rattle.std.proofs.Common.{min, refl, sym, ap, ◌∙◌, arith}
+use Rattle.std.proofs.Common.{min, refl, ap, ◌∙◌, arith}
 use Rattle.tk_record.specs.Record.{entry_of_view}
-use Rattle.tk_query_conditions.specs.CondOf.{cond_of}
-use Rattle.tk_query_nearest.specs.steps.Counted.{missing_of}
-use Rattle.tk_query_nearest.proofs.CountedLemmas.{any_counted, every_counted}
+use Rattle.tk_query_nearest.specs.Parts.{missing}
 use Rattle.tk_query_conditions.proofs.ReaderLemmas.{not_empty}
 use Rattle.tk_query_nearest.proofs.TakenLemmas.{all_is, any_is, total_taken, total_full, fewest_taken, fewest_all, fewest_none}
 use Rattle.tk_query_nearest.proofs.parts.+distances.Goals as goal
 
 pub distance_of_all-returns-then-total-most : goal.distance_of_all-returns-then-total-most
 distance_of_all-returns-then-total-most t c =
-    total_full c.args.counted c.args.«record».now (entry_of_view c.args.event.now) c.args.most
+    total_full c.args.«record».now (entry_of_view c.args.event.now) c.args.most
     c.args.members.now c.loop-member.member-index c.loop-member.total c.loop-member.invariant
     c.if-total-most.true
 
 pub distance_of_all-loop-member-preserved : goal.distance_of_all-loop-member-preserved
 distance_of_all-loop-member-preserved t c =
-    total_taken c.args.counted c.args.«record».now (entry_of_view c.args.event.now) c.args.most
+    total_taken c.args.«record».now (entry_of_view c.args.event.now) c.args.most
     c.args.members.now c.loop-member.member-index c.member-item.result c.loop-member.total
     c.distance_up_to-total.result _ c.loop-member-test.true c.member-item.is
     c.loop-member.invariant c.distance_up_to-total.ensures refl
@@ -29,13 +27,10 @@ distance_of_any-returns-then-fewest-eq0 t c =
 
 pub distance_of_any-loop-member-preserved : goal.distance_of_any-loop-member-preserved
 distance_of_any-loop-member-preserved t c =
-    let every = every_counted c.args.«record».now (cond_of c.member-item.result)
-    (entry_of_view c.args.event.now) in
     fewest_taken c.args.«record».now (entry_of_view c.args.event.now) c.args.most
     c.args.members.now c.loop-member.member-index c.member-item.result c.loop-member.fewest
     c.distance_up_to-fewest.result c.loop-member-test.true c.member-item.is
-    c.loop-member.invariant
-    (c.distance_up_to-fewest.ensures ∙ ap (λ n. min n c.loop-member.fewest) every)
+    c.loop-member.invariant c.distance_up_to-fewest.ensures
 
 pub distance_of_any-returns : goal.distance_of_any-returns
 distance_of_any-returns t c =
@@ -47,15 +42,13 @@ distance_of_any-returns t c =
 pub distance_up_to-returns-in-All : goal.distance_up_to-returns-in-All
 distance_up_to-returns-in-All t c =
     c.distance_of_all.ensures
-    ∙ ap (λ d. min (missing_of c.args.counted c.args.«record».now d
-    (entry_of_view c.args.event.now)) c.args.most)
+    ∙ ap (λ d. min (missing c.args.«record».now d (entry_of_view c.args.event.now)) c.args.most)
     (all_is c.args.condition.now c.in-All.members c.deref.result.now c.in-All.is
     c.deref.ensures.value)
 
 pub distance_up_to-returns-in-Any : goal.distance_up_to-returns-in-Any
 distance_up_to-returns-in-Any t c =
     c.distance_of_any.ensures
-    ∙ ap (λ n. min n c.args.most)
-    (any_counted c.args.counted c.args.«record».now (entry_of_view c.args.event.now) _ _
+    ∙ ap (λ d. min (missing c.args.«record».now d (entry_of_view c.args.event.now)) c.args.most)
     (any_is c.args.condition.now c.in-Any.members c.deref-in-Any.result.now c.in-Any.is
-    c.deref-in-Any.ensures.value) (sym c.includes.ensures ∙ c.if-not-includes.false))
+    c.deref-in-Any.ensures.value)

@@ -6,7 +6,7 @@ pub returns-in_err-table : goal.returns-in_err-table
 returns-in_err-table c =
     let p = err_from_is_err_and c.from_residual-in_err-table.result c.from_residual-in_err-table.ensures.1 in
     let fault = c.in_err-table.field-0.0 in
-    rw (p.1, p.2) (nodes_played c.in-Some.version c.in_ok-workers.workers c.args.input.now c.in-Some.body.now c.in_ok-workers.rest.now fault c.in-Some.ensures c.in_ok-workers.ensures c.in_err-table.ensures)
+    rw (p.1, p.2) (nodes_played c.in-Some.version c.in_ok-workers.workers c.args.input.now c.in-Some.body.now c.in_ok-workers.rest.now c.in_err-table.ensures.0 fault c.in-Some.ensures c.in_ok-workers.ensures c.in_err-table.ensures.1)
 
 pub returns : goal.returns
 returns c =

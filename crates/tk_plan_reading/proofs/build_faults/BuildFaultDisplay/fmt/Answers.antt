@@ -1,6 +1,6 @@
 use Rattle.std.proofs.Common.{Some, refl, sym, ap, ◌∙◌}
 use Rattle.std.proofs.Output.{has_written_append, has_written_of_eq}
-use Rattle.tk_plan_json_members.specs.FaultTexts.{plan_fault_text}
+use Rattle.tk_plan_json.specs.FaultTexts.{plan_fault_text}
 use Rattle.tk_plan_reading.specs.BuildFaultTexts.{text_at}
 use Rattle.tk_plan_reading.proofs.build_faults.BuildFaultDisplay.fmt.Goals as goal
 

@@ -14,7 +14,7 @@ returns-then-not-runs_at c = (
 pub returns-then-not-runs_at-2 : goal.returns-then-not-runs_at-2
 returns-then-not-runs_at-2 c = (
   λ yes. absurd (false≢true yes),
-  λ met. sym c.if-not-runs_at-2.true ∙ c.runs_at-2.ensures.1 met.finishes,
+  λ met. sym c.if-not-runs_at-2.true ∙ c.runs_at-2.ensures.1 met.starts,
 )
 
 pub returns : goal.returns

@@ -5,10 +5,10 @@ use Rattle.tk_query_locks.proofs.StartLemmas.{list_changed}
 use Rattle.tk_query_locks.proofs.start_lists.StartLists.push.Goals as goal
 
 pub returns-clause-kept : goal.returns-clause-kept
-returns-clause-kept c = λ n p has.
+returns-clause-kept c = λ n p lt has.
     let lists = c.self.inside.lists.items in
     let within = subst (λ l. c.args.number < length l) (sym c.self.view_is) c.requires in
     let row = c.index_mut.ensures.value ∙ get_or_default lists c.args.number c.index_mut.result.now [] within in
-    list_changed lists c.args.number c.push.new.self (λ q. Unit {0}) within
-    (λ q is old. c.in_ok-push.ensures.kept q (subst (λ l. Contains l q) (sym row) old)) n p tt
+    list_changed lists c.args.number c.push.new.self (λ q. c.args.start < get_or c.args.ends.now q 0) within
+    (λ q is old. c.in_ok-push.ensures.kept q is (subst (λ l. Contains l q) (sym row) old)) n p lt
     (subst (λ l. Contains (get_or l n []) p) (sym c.self.view_is) has)

@@ -8,8 +8,8 @@ use Rattle.tk_query_locks.proofs.start_lists.Starts.forget.Goals as goal
 
 pub returns : goal.returns
 returns c = λ p lt has.
-    let test : ℕ → Bool = λ n. nat_lt c.args.position (get_or c.args.finishes.now n 0) in
+    let test : ℕ → Bool = λ n. nat_lt c.args.position (get_or c.args.ends.now n 0) in
     let items = c.self.inside.positions.items in
     let same = filter_same _ test _ (λ x b f' k. search rules) _ _ c.retain.ensures.filtered in
     subst (λ l. Contains l p) (sym same)
-    (stays test items p (lt-ltb c.args.position (get_or c.args.finishes.now p 0) lt) (subst (λ l. Contains l p) (sym c.self.view_is) has))
+    (stays test items p (lt-ltb c.args.position (get_or c.args.ends.now p 0) lt) (subst (λ l. Contains l p) (sym c.self.view_is) has))

@@ -1,5 +1,0 @@
-//! Tests of meetings of two bodies.
-#![tactic(auto)]
-
-#[cfg(test)]
-mod meetings;

@@ -1,0 +1,4 @@
+pub mod SeatSums
+pub mod ClaimSteps
+pub mod Workers
+pub mod ClaimLaws

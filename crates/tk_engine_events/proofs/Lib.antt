@@ -1,3 +1,0 @@
-pub mod Emissions
-mod LentSinks
-mod LockedTables

@@ -1,3 +1,0 @@
-pub mod SeatSums
-pub mod ClaimSteps
-pub mod Workers

@@ -1,4 +1,0 @@
-use Rattle.tk_engine_runs.proofs.claims.ClaimFaultDisplay.fmt.Goals as goal
-
-pub returns-in-Seats-clause-writes : goal.returns-in-Seats-clause-writes
-returns-in-Seats-clause-writes g c = rw c.in-Seats.is c.write_str.ensures.writes

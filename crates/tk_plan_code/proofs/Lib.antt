@@ -1,4 +1,0 @@
-pub mod BodyNumbers
-pub mod IdEscapes
-pub mod JsonObjects
-pub mod NodeSearches

@@ -1,5 +1,0 @@
-pub mod NodeViews
-pub mod NodeJson
-pub mod Bodies
-pub mod NodeIds
-pub mod steps

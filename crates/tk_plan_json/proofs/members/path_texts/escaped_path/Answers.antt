@@ -1,0 +1,6 @@
+use Rattle.tk_plan_json.proofs.Escapes.{character_written}
+use Rattle.tk_plan_json.proofs.members.path_texts.escaped_path.Goals as goal
+
+pub loop-character-preserved : goal.loop-character-preserved
+loop-character-preserved c =
+    character_written c.in-Some.character _ _ _ _ _ c.loop-character.invariant c.in-Some.ensures.steps.0 c.in_ok-push_escaped.ensures

@@ -1,5 +1,0 @@
-use Rattle.tk_plan_laws.proofs.LifecycleToListener.{lifecycle_is_relied_on}
-use Rattle.tk_plan_laws.proofs.laws.lifecycle_is_relied_on.Goals as goal
-
-pub returns : goal.returns
-returns c = lifecycle_is_relied_on

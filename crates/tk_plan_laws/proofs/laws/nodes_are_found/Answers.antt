@@ -1,5 +1,0 @@
-use Rattle.tk_plan_laws.proofs.RegisteredDescriptors.{nodes_found}
-use Rattle.tk_plan_laws.proofs.laws.nodes_are_found.Goals as goal
-
-pub returns : goal.returns
-returns c = nodes_found

@@ -1,0 +1,10 @@
+pub use Rattle.tk_ids.specs.IdText
+pub use Rattle.tk_events.specs.Event
+pub use Rattle.tk_record.specs.Recorded
+pub use Rattle.tk_plan.specs.Planned
+pub use Rattle.tk_claims.specs.Run
+pub mod Scripts
+pub mod Reports
+pub mod Listening
+pub mod Spines
+pub mod Laws
