@@ -17,8 +17,8 @@ fn rooted(alloc: Global, nodes: Vec<PlanNode<'static>>) -> Node {
     PlanNode::container(alloc, ("engine", "e"), "e").children(nodes)
 }
 
-// A plan whose nodes have numbers of bodies that are not in their order.
-fn with_bodies(alloc: Global) -> Node {
+/// A plan whose nodes have numbers of bodies that are not in their order.
+pub fn with_bodies(alloc: Global) -> Node {
     let tests = vec![in alloc; numbered(alloc, "1", 8), numbered(alloc, "2", 3)]?;
     let a = PlanNode::container(alloc, ("class", "A"), "A")
         .children(tests)?
@@ -81,7 +81,7 @@ fn said(alloc: Global, number: usize) -> Result<String, AllocError> {
 }
 
 #[test]
-fn bodies_that_are_refused(rt: HostRuntime) {
+fn bodies_never_called_and_none(rt: HostRuntime) {
     for (number, expected) in [
         "body of [engine:e]/[b:1] is never called",
         "body of [engine:e]/[c:1]/[t:1] is never called",

@@ -24,9 +24,9 @@ fn is_read_and_written_as(alloc: Global, text: &[u8], written: &[u8]) -> bool {
     }
 }
 
-// Whether lines that are read in a version are written in version 2.
-fn is_renewed(alloc: Global, version: char, lines: &str) -> Result<bool, AllocError> {
-    let text = format!(in alloc; "testkit-record|{version}\n{lines}")?;
+// Whether lines that are read in a version, with the end that it asks for, are written in version 2.
+fn is_renewed(alloc: Global, version: char, lines: &str, end: &str) -> Result<bool, AllocError> {
+    let text = format!(in alloc; "testkit-record|{version}\n{lines}{end}")?;
     let written = format!(in alloc; "testkit-record|2\n{lines}")?;
     Ok(is_read_and_written_as(alloc, text.as_bytes(), written.as_bytes()))
 }
@@ -39,9 +39,9 @@ fn texts_written_again(rt: HostRuntime) {
 
 #[test]
 fn texts_of_each_version(rt: HostRuntime) {
-    assert!(rt; is_renewed(rt.alloc(), '1', each_tail()) == Ok(true));
-    assert!(rt; is_renewed(rt.alloc(), '2', files()) == Ok(true));
-    assert!(rt; is_renewed(rt.alloc(), '3', files()) == Ok(true));
+    assert!(rt; is_renewed(rt.alloc(), '1', each_tail(), "") == Ok(true));
+    assert!(rt; is_renewed(rt.alloc(), '2', files(), "") == Ok(true));
+    assert!(rt; is_renewed(rt.alloc(), '3', files(), "Z|3\n") == Ok(true));
 }
 
 // A long reason of a skip.
