@@ -82,7 +82,7 @@ fn reading_the_end_once(rt: HostRuntime) -> Result<(), AllocError> {
     Ok(())
 }
 
-// Whether a question whose target breaks after so many bytes is answered so, and these bytes of
+// Whether a question whose target breaks after `bytes` bytes is answered so, and these bytes of
 // its answer went out.
 fn writing_breaks(alloc: Global, words: &[String], text: &[u8], bytes: usize) -> bool {
     let mut target = OneByteTarget::new(alloc, bytes);

@@ -11,7 +11,7 @@ fn of_two_tests(alloc: Global) -> Option<Executions> {
     executions(alloc, &events).ok()
 }
 
-// Whether so many executions are kept; none where memory was refused.
+// Whether `count` executions are kept; nothing where memory was refused.
 fn are_kept(kept: Result<Executions, AllocError>, count: usize) -> Option<bool> {
     Some(kept.ok()?.len() == count)
 }

@@ -21,7 +21,7 @@ fn are_starts(alloc: Global, events: &Events<'_>) -> bool {
         && is_of_length(select(alloc, events, &Condition::Started), count)
 }
 
-// Whether a record of starts has so many.
+// Whether a record of starts has `count` of them.
 fn has_starts(alloc: Global, record: &Record, count: usize) -> bool {
     match Events::all(alloc, record) {
         Ok(events) => events.count() == count && are_starts(alloc, &events),

@@ -143,7 +143,7 @@ fn outcome_of<R: Threads + Wait + Sync>(
     Some(run(rt, alloc, units, workers, capacity)?.outcome)
 }
 
-// Whether so many units that emit one start each are recorded.
+// Whether a run of `units` units that emit one start each is recorded.
 fn are_recorded<R: Threads + Wait + Sync>(
     rt: &R,
     alloc: Global,
@@ -377,7 +377,7 @@ fn before_and_after_are_asked_once(rt: HostRuntime) {
     }
 }
 
-// Whether a run of so many workers, each of which fails at its first unit once all have one, answers
+// Whether a run of `workers` workers, each of which fails at its first unit once all have one, answers
 // the fault of worker 1, and its unit.
 fn first_has_failed<R: Threads + Wait + Sync>(rt: &R, alloc: Global, workers: u32) -> bool {
     let steps = [

@@ -35,7 +35,7 @@ fn passes<R: Wait>(rt: &R, sender: &mut Sender, receiver: &mut Receiver, count: 
     true
 }
 
-/// What a session of one sender is closed with after so many starts.
+/// What a session of one sender is closed with after `count` starts.
 pub fn closed_after<R: Wait>(
     rt: &R,
     alloc: Global,
@@ -82,8 +82,8 @@ fn closed_too_early(rt: HostRuntime) {
     assert!(rt; closed_by_both(&rt, rt.alloc()) == Some(CloseReason::NotDrained(1)));
 }
 
-// Whether so many starts go out, one more comes back since the queue is full, and it goes out once
-// one was taken.
+// Whether `capacity` starts go out, one more comes back since the queue is full, and it goes out
+// once one was taken.
 fn is_filled<R: Wait>(rt: &R, sender: &mut Sender, receiver: &mut Receiver, capacity: u64) -> bool {
     for stamp in 0..capacity {
         if send(rt, sender, start(0, stamp)) != Answer::Sent {

@@ -9,8 +9,8 @@ pub fn each_worker_has_its_list()
     ensures { EachHasItsList }
 {}
 
-/// The seats of a claim have drawn so many numbers and not another number of them, and each seat
-/// drew its numbers in increasing order.
+/// How many numbers the seats of a claim have drawn follows from their lists, and each seat drew its
+/// numbers in increasing order.
 pub fn claims_are_exact()
     ensures number { (lists : List (List ℕ)) (n m : ℕ) → Claims lists n → Claims lists m → n ≡ m }
     ensures order { (lists : List (List ℕ)) (numbers : List ℕ) (n seat i j x y : ℕ)

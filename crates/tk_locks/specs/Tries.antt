@@ -38,8 +38,8 @@ abbrev pub WasFreeAtLast : List ℕ → List ℕ → ℕ → Type 0
 WasFreeAtLast old new need =
     (tried : List ℕ) × WereBusy old tried need × WasFree tried new need
 
--- The need was added to the word that was read last, and the sum is the word of what the seats of a
--- book with so many then held: one of them the need, which conflicts with no other seat's.
+-- The need was added to the word that was read last, and the sum is the word of what all `seats`
+-- seats of a book then held: one of them the need, which conflicts with no other seat's.
 abbrev pub TookLast : ℕ → List ℕ → NeedView → Type 0
 TookLast seats read n =
     (earlier : List ℕ) × (seen : ℕ) × (read ≡ earlier ++ seen ∷ [])

@@ -37,8 +37,9 @@ pub fn writers_are_alone()
     ensures { (held : List (Option NeedView)) → AreCompatible held ↔ WritersAreAlone held }
 {}
 
-/// A word of so many seats' needs has in each lane at most a reader for each seat, or one writer. So
-/// neither two writers of a resource nor more readers than seats make a word that a seat can read.
+/// A word that the needs of `seats` seats make has in each lane at most a reader for each seat, or
+/// one writer. So neither two writers of a resource nor more readers than seats make a word that a
+/// seat can read.
 pub fn lanes_of_held_words()
     ensures readers { (seats word r : ℕ) (own : Option NeedView) → seats ≤ MAX_WORKERS → r < 16
         → WereHeld seats own word → (lane_at word r ≤ seats) ⊎ (lane_at word r ≡ 15) }
@@ -57,8 +58,8 @@ pub fn release_undoes_grant()
         → Grants old seat need mid → Releases mid seat back new → (back ≡ need) × (new ≡ old) }
 {}
 
-/// The words that a try read tell whether it was refused, and for which cause.
-pub fn words_tell_refusals()
+/// The words that a try read decide whether it was refused, and for which cause.
+pub fn refusal_has_one_cause()
     ensures free { (old new : List ℕ) (need : ℕ) (busy : Busy)
         → WasFree old new need → WasBusy old new need busy → ⊥ }
     ensures one_cause { (need word found : ℕ)

@@ -1,6 +1,6 @@
 use Rattle.std.proofs.Common.{refl}
 use Rattle.tk_locks.proofs.RefusedTries.{free, one_word, last}
-use Rattle.tk_locks.proofs.laws.words_tell_refusals.Goals as goal
+use Rattle.tk_locks.proofs.laws.refusal_has_one_cause.Goals as goal
 
 pub returns-clause-free : goal.returns-clause-free
 returns-clause-free c = free
