@@ -15,7 +15,7 @@ from typing import Dict, List, Tuple
 
 import building
 
-LINE = "queue_bench: tk_queue_session tk_queue_core tk_record tk_events tk_ids tk_waiting"
+LINE = "queue_bench: tk_queue_session tk_record tk_events tk_ids tk_waiting"
 EVENTS_OF_A_SENDER = 50_000
 
 

@@ -10,8 +10,7 @@ use std::thread;
 use std::thread::{Promise, Threads};
 use test_support::{one_node, start};
 use tk_ids::DType;
-use tk_queue_core::Item;
-use tk_queue_session::{Ended, Receiver, Sender, open};
+use tk_queue_session::{Ended, Item, Receiver, Sender, open};
 
 const NO_SENDER: &str = "no sender";
 

@@ -6,8 +6,9 @@ use std::sync::Wait;
 use test_support::one_node;
 use tk_events::{Event, Kind};
 use tk_ids::{DType, Segment};
-use tk_queue_core::Item;
-use tk_queue_session::{CloseReason, Ended, Receiver, RegisterFault, SendFault, Sender, open};
+use tk_queue_session::{
+    CloseReason, Ended, Item, Receiver, RegisterFault, SendFault, Sender, open,
+};
 
 /// The sender and the receiver of a session of one worker, if it is opened.
 pub fn one_sender(alloc: Global, capacity: usize) -> Option<(Sender, Receiver)>

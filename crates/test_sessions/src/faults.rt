@@ -4,8 +4,7 @@ use test_support::{are_shown, is_shown, start};
 use tk_claims::ClaimFault;
 use tk_ids::IdFault;
 use tk_locks::BookFault;
-use tk_queue_core::CoreFault;
-use tk_queue_session::{OpenFault, RegisterFault, SendFault};
+use tk_queue_session::{CoreFault, OpenFault, RegisterFault, SendFault};
 
 fn show_open_faults(alloc: Global) -> bool {
     let faults = [OpenFault::Workers, OpenFault::Capacity, OpenFault::Memory];

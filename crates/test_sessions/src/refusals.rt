@@ -12,9 +12,8 @@ use test_support::{
 };
 use tk_events::Kind;
 use tk_ids::Segment;
-use tk_queue_core::{Core, CoreFault};
 use tk_queue_replay::{ReplayFault, replay_text};
-use tk_queue_session::{Receiver, RegisterFault, Sender};
+use tk_queue_session::{Core, CoreFault, Receiver, RegisterFault, Sender};
 use tk_streams::{ByteSource, ByteTarget, Target};
 
 // A refused growth of the target breaks it, and what it took is a prefix of the record.

@@ -6,8 +6,8 @@ use test_support::{
 };
 use tk_events::{Event, Kind};
 use tk_ids::DType;
-use tk_queue_core::{Core, CoreFault};
 use tk_queue_replay::{ReplayFault, Replayed, Turn, replay, replay_text};
+use tk_queue_session::{Core, CoreFault};
 use tk_streams::{ByteTarget, Source, Target};
 
 // The fault, and the stamp of the event that came back.

@@ -4,10 +4,10 @@ use Rattle.std.proofs.lemmas.Bool.{cases_eq, or_left}
 use Rattle.std.proofs.lemmas.List.Elements.{All-nil, All-cons}
 use Rattle.tk_events.specs.declared.events.Event.{Event}
 use Rattle.tk_record.specs.Mixing.{IsWorkerOf, of_worker, Mix}
-use Rattle.tk_queue_core.specs.declared.items.Item.{Item}
-use Rattle.tk_queue_core.specs.declared.items.Item.TheVariants.{Entry as Emitted, End}
-use Rattle.tk_queue_core.specs.Core.{Core, IsCore, worker_of, items_of, entries, script}
-use Rattle.tk_queue_core.proofs.CoreSteps.{filter-append}
+use Rattle.tk_queue_session.specs.declared.items.Item.{Item}
+use Rattle.tk_queue_session.specs.declared.items.Item.TheVariants.{Entry as Emitted, End}
+use Rattle.tk_queue_session.specs.Core.{Core, IsCore, worker_of, items_of, entries, script}
+use Rattle.tk_queue_session.proofs.CoreInvariant.{filter-append}
 use Rattle.tk_queue_session.specs.Marks.{is_marked}
 use Rattle.tk_queue_session.proofs.SharedSteps.{append_cons_ne_nil, holder_worker, events_in, events_among, events_scripted, marked_among}
 use Rattle.tk_queue_session.specs.Senders.{SenderView}

@@ -12,9 +12,9 @@ use Rattle.tk_query.specs.InOrder.{CanHoldInTurn, HoldInTurn}
 use Rattle.tk_locks.specs.NeedView.{NeedView}
 use Rattle.tk_locks.specs.Needs.{Access, nothing, writes}
 use Rattle.tk_locks.specs.Holdings.{WritersAreAlone, held_access}
-use Rattle.tk_queue_core.specs.declared.items.Item.TheVariants.{Entry as Emitted, End}
-use Rattle.tk_queue_core.specs.Core.{Core, IsCore, push}
-use Rattle.tk_queue_core.proofs.CoreSteps.{pushes_core, takes}
+use Rattle.tk_queue_session.specs.declared.items.Item.TheVariants.{Entry as Emitted, End}
+use Rattle.tk_queue_session.specs.Core.{Core, IsCore, push}
+use Rattle.tk_queue_session.proofs.CoreInvariant.{pushes_core, takes}
 use Rattle.tk_queue_session.specs.CoreSteps.{fresh_core}
 use Rattle.tk_queue_session.specs.Marks.{is_marked}
 use Rattle.tk_queue_session.proofs.SharedSteps.{append_cons_ne_nil}

@@ -9,8 +9,8 @@ use Rattle.tk_record.specs.declared.selections.Selection.{Selection}
 use Rattle.tk_plan.specs.Trees.{Tree}
 use Rattle.tk_plan_reading.specs.PlanAnswers.{plan_in}
 use Rattle.tk_plan_runs.specs.Answers.{plan_text}
-use Rattle.tk_queue_core.specs.declared.items.Item.{Item}
-use Rattle.tk_queue_core.specs.Core.{items_of, script}
+use Rattle.tk_queue_session.specs.declared.items.Item.{Item}
+use Rattle.tk_queue_session.specs.Core.{items_of, script}
 use Rattle.testkit_headline.specs.Answers.{IsTheAnswer}
 use Rattle.testkit_headline.specs.Counting.{IsCount}
 use Rattle.testkit_headline.specs.PlanReports.{report_in}

@@ -21,8 +21,8 @@ use Rattle.tk_locks.specs.NeedView.{NeedView}
 use Rattle.tk_locks.specs.declared.rules.SeatNote.{SeatNote}
 use Rattle.tk_locks.specs.Holdings.{WritersAreAlone}
 use Rattle.tk_locks.specs.LockWord.{HoldingsFitWord, holdings}
-use Rattle.tk_queue_core.specs.declared.items.Item.{Item}
-use Rattle.tk_queue_core.specs.Core.{entries}
+use Rattle.tk_queue_session.specs.declared.items.Item.{Item}
+use Rattle.tk_queue_session.specs.Core.{entries}
 use Rattle.tk_queue_session.specs.declared.session_rules.PassView.{PassView}
 use Rattle.tk_queue_session.specs.Emission.{entries_by}
 use Rattle.tk_queue_session.specs.SessionRule.{Session}

@@ -4,9 +4,9 @@ use Rattle.tk_events.specs.declared.events.Event.{Event}
 use Rattle.tk_events.specs.declared.events.Entry.{Entry}
 use Rattle.tk_record.specs.Recorded.{Recorded}
 use Rattle.tk_record.specs.Mixing.{IsWorkerOf, Mix}
-use Rattle.tk_queue_core.specs.declared.items.Item.{Item}
-use Rattle.tk_queue_core.specs.declared.items.Item.TheVariants.{End}
-use Rattle.tk_queue_core.specs.Core.{items_of}
+use Rattle.tk_queue_session.specs.declared.items.Item.{Item}
+use Rattle.tk_queue_session.specs.declared.items.Item.TheVariants.{End}
+use Rattle.tk_queue_session.specs.Core.{items_of}
 use Rattle.tk_queue_session.specs.Emission.{entries_by}
 use Rattle.tk_queue_session.specs.Marks.{is_marked}
 

@@ -12,8 +12,8 @@ use Rattle.tk_query.specs.Asked.{fits}
 use Rattle.tk_query.specs.InOrder.{CanHoldInTurn}
 use Rattle.tk_locks.specs.NeedView.{NeedView}
 use Rattle.tk_locks.specs.Holdings.{WritersAreAlone}
-use Rattle.tk_queue_core.specs.declared.items.Item.TheVariants.{Entry as Emitted, End}
-use Rattle.tk_queue_core.specs.Core.{Core, IsCore, push, take_first}
+use Rattle.tk_queue_session.specs.declared.items.Item.TheVariants.{Entry as Emitted, End}
+use Rattle.tk_queue_session.specs.Core.{Core, IsCore, push, take_first}
 use Rattle.tk_queue_session.specs.CoreSteps.{fresh_core}
 use Rattle.testkit_headline.specs.Recordings.{Completes, NothingAfterMarks, HoldsWhatWasSent}
 use Rattle.testkit_headline.specs.Counting.{IsCount}

@@ -10,7 +10,7 @@ ghost use Rattle.tk_query.specs.Asked.{fits};
 ghost use Rattle.tk_query.specs.InOrder.{CanHoldInTurn};
 ghost use Rattle.tk_locks.specs.NeedView.{NeedView};
 ghost use Rattle.tk_locks.specs.Holdings.{WritersAreAlone, held_word};
-ghost use Rattle.tk_queue_core.specs.Core.{entries};
+ghost use Rattle.tk_queue_session.specs.Core.{entries};
 ghost use Rattle.tk_queue_session.specs.Closing.{sent_in};
 ghost use Rattle.testkit_headline.specs.Answers.{IsTheAnswer};
 ghost use Rattle.testkit_headline.specs.Counting.{IsCount};

@@ -7,7 +7,7 @@ use Rattle.tk_events.specs.declared.events.Event.{Event}
 use Rattle.tk_events.specs.declared.events.Entry.{Entry}
 use Rattle.tk_record.specs.Recorded.{Recorded}
 use Rattle.tk_record.specs.Mixing.{IsWorkerOf, of_worker}
-use Rattle.tk_queue_core.specs.Core.{entries}
+use Rattle.tk_queue_session.specs.Core.{entries}
 use Rattle.tk_queue_session.specs.Closing.{ClosedView, sent_in}
 use Rattle.tk_queue_session.specs.Emission.{entries_by}
 use Rattle.tk_queue_session.proofs.ReceiverSteps.{of_worker-append}

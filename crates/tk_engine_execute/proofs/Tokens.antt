@@ -8,7 +8,7 @@ use Rattle.std.proofs.lemmas.List.Sums.{sum_by-cons}
 use Rattle.tk_events.specs.declared.events.Event.{Event}
 use Rattle.tk_events.specs.declared.events.Entry.{Entry}
 use Rattle.tk_record.specs.Mixing.{IsWorkerOf, of_worker, Mix}
-use Rattle.tk_queue_core.specs.Core.{entries}
+use Rattle.tk_queue_session.specs.Core.{entries}
 use Rattle.tk_claims.specs.Claims.{ClaimView, ClaimSeatView, Claims}
 use Rattle.tk_queue_session.specs.declared.close_faults.CloseReason.{CloseReason}
 use Rattle.tk_queue_session.specs.declared.close_faults.CloseReason.TheVariants.{Missing, Twice, NotDrained}

@@ -10,12 +10,12 @@ use Rattle.tk_ids.specs.declared.descriptors.Descriptor.{Descriptor}
 use Rattle.tk_events.specs.declared.events.Entry.{Entry}
 use Rattle.tk_record.specs.declared.records.AppendFault.{AppendFault}
 use Rattle.tk_record.specs.Record.{fault_of}
-use Rattle.tk_queue_core.specs.declared.items.Item.{Item}
-use Rattle.tk_queue_core.specs.declared.items.Item.TheVariants.{Entry as Emitted, End}
+use Rattle.tk_queue_session.specs.declared.items.Item.{Item}
+use Rattle.tk_queue_session.specs.declared.items.Item.TheVariants.{Entry as Emitted, End}
 use Rattle.tk_queue_replay.specs.declared.replays.ReplayFault.{ReplayFault}
 use Rattle.tk_queue_replay.specs.declared.replays.ReplayFault.TheVariants as faults
 use Rattle.tk_record.specs.Recorded.{Recorded}
-use Rattle.tk_queue_core.specs.CoreState.{CoreState, fresh}
+use Rattle.tk_queue_session.specs.CoreState.{CoreState, fresh}
 use Rattle.tk_queue_replay.specs.Replay.{Moment, Stop, Faulty, Refuses, turn_step, take_item}
 use Rattle.tk_queue_replay.specs.Replay.{append_to, after, plays, start, replay_input, StopsAt}
 use Rattle.tk_queue_replay.specs.Replay.{IsReplayed}

@@ -14,19 +14,19 @@ use Rattle.tk_record.specs.declared.records.AppendFault.{AppendFault}
 use Rattle.tk_record.specs.Recorded.{Recorded}
 use Rattle.tk_record.specs.Record.{fault_of}
 use Rattle.tk_record.specs.Mixing.{IsWorkerOf}
-use Rattle.tk_queue_core.specs.Limits.{most_workers, worker_slots}
-use Rattle.tk_queue_core.specs.declared.items.Item.{Item}
-use Rattle.tk_queue_core.specs.declared.items.Item.TheVariants.{Entry as Emitted, End}
+use Rattle.tk_queue_session.specs.Limits.{most_workers, worker_slots}
+use Rattle.tk_queue_session.specs.declared.items.Item.{Item}
+use Rattle.tk_queue_session.specs.declared.items.Item.TheVariants.{Entry as Emitted, End}
 use Rattle.tk_queue_replay.specs.declared.turns.Turn.{Turn}
 use Rattle.tk_queue_replay.specs.declared.turns.Turn.TheVariants.{Worker, Take}
-use Rattle.tk_queue_core.specs.CoreState.{has_ended, fresh}
-use Rattle.tk_queue_core.specs.Core.{Core, put, entry, script, emit, finish, take_first, entries}
+use Rattle.tk_queue_session.specs.CoreState.{has_ended, fresh}
+use Rattle.tk_queue_session.specs.Core.{Core, put, entry, script, emit, finish, take_first, entries}
 use Rattle.tk_queue_replay.specs.Replay.{Moment, Faulty, IsTurn, script_of, count_of, next, append_to, take_item, turn_step, after, plays}
 use Rattle.tk_queue_replay.specs.Replay.{start}
 use Rattle.tk_queue_replay.specs.Laws.{IsMomentOf, ReplaysCore, FaultyHasNoItem}
 use Rattle.tk_queue_replay.specs.TurnItems.{is_turn_of, item_after}
 use Rattle.tk_queue_replay.proofs.TurnItems.{Ordered, none_ordered, worker_ordered, take_ordered, scripted_event, scripted_mark, script_long}
-use Rattle.tk_queue_core.proofs.CoreSteps.{emits, finishes, takes, put-same, put-other}
+use Rattle.tk_queue_session.proofs.CoreInvariant.{emits, finishes, takes, put-same, put-other}
 use Rattle.tk_queue_replay.proofs.Plays.{same_Ok}
 
 -- the events sent, with one more

@@ -10,7 +10,7 @@ use Rattle.std.proofs.lemmas.Bool.{ltb-true, leb-true, lt-ltb, le-leb, and_parts
 use Rattle.std.proofs.lemmas.Option.{same_Some, none-some}
 use Rattle.tk_ids.proofs.ReadingLemmas.{cond_cases}
 use Rattle.tk_record.specs.Mixing.{IsWorkerOf}
-use Rattle.tk_queue_core.specs.Limits.{most_workers}
+use Rattle.tk_queue_session.specs.Limits.{most_workers}
 use Rattle.tk_queue_replay.specs.declared.turns.Turn.{Turn}
 use Rattle.tk_queue_replay.specs.declared.turns.Turn.TheVariants.{Worker, Take}
 use Rattle.tk_queue_replay.specs.Replay.{IsTurn}

@@ -28,7 +28,7 @@ use Rattle.tk_queue_replay.specs.declared.turns.Turn.{Turn}
 use Rattle.tk_queue_replay.specs.declared.replays.Replayed.{Replayed}
 use Rattle.tk_queue_replay.specs.declared.replays.ReplayFault.{ReplayFault}
 use Rattle.tk_queue_replay.specs.declared.replays.ReplayFault.TheVariants as faults
-use Rattle.tk_queue_core.specs.Limits.{most_workers}
+use Rattle.tk_queue_session.specs.Limits.{most_workers}
 use Rattle.tk_queue_replay.specs.Script.{IsCount, workers_line, AreTurns, turns_line}
 use Rattle.tk_queue_replay.specs.steps.Replay.{workers_of, turns_of, IsPlayedAs}
 use Rattle.tk_queue_replay.specs.Replay.{replay_input, IsReplayed, plays, start}

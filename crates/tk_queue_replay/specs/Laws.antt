@@ -5,15 +5,15 @@ use Rattle.std.specs.List.{AllByRecursion}
 use Rattle.tk_ids.specs.declared.descriptors.Descriptor.{Descriptor}
 use Rattle.tk_events.specs.declared.events.Event.{Event}
 use Rattle.tk_record.specs.Mixing.{IsWorkerOf}
-use Rattle.tk_queue_core.specs.Limits.{most_workers, worker_slots}
+use Rattle.tk_queue_session.specs.Limits.{most_workers, worker_slots}
 use Rattle.tk_queue_replay.specs.declared.turns.Turn.{Turn}
 use Rattle.tk_queue_replay.specs.declared.turns.Turn.TheVariants.{Worker}
 use Rattle.tk_record.specs.Recorded.{Recorded}
 use Rattle.tk_queue_replay.specs.declared.replays.ReplayFault.{ReplayFault}
 use Rattle.tk_queue_replay.specs.declared.replays.ReplayFault.TheVariants as faults
 use Rattle.tk_queue_replay.specs.ReplayText.{IsPlayed}
-use Rattle.tk_queue_core.specs.CoreState.{has_ended}
-use Rattle.tk_queue_core.specs.Core.{Core, IsCore, entries}
+use Rattle.tk_queue_session.specs.CoreState.{has_ended}
+use Rattle.tk_queue_session.specs.Core.{Core, IsCore, entries}
 use Rattle.tk_queue_replay.specs.Replay.{Moment, Faulty, IsTurn, script_of, count_of, plays, start}
 use Rattle.tk_queue_replay.specs.Replay.{ReplayInput, StopsAt}
 use Rattle.tk_queue_replay.specs.TurnItems.{AreItemsOf, item_after}

@@ -9,14 +9,14 @@ use Rattle.tk_record.specs.Recorded.{Recorded}
 use Rattle.tk_record.specs.Record.{fault_of}
 use Rattle.tk_record.specs.Entries.{with_entry}
 use Rattle.tk_record.specs.Mixing.{IsWorkerOf}
-use Rattle.tk_queue_core.specs.declared.items.Item.{Item}
-use Rattle.tk_queue_core.specs.declared.items.Item.TheVariants.{Entry as Emitted, End}
+use Rattle.tk_queue_session.specs.declared.items.Item.{Item}
+use Rattle.tk_queue_session.specs.declared.items.Item.TheVariants.{Entry as Emitted, End}
 use Rattle.tk_queue_replay.specs.declared.turns.Turn.{Turn}
 use Rattle.tk_queue_replay.specs.declared.turns.Turn.TheVariants.{Worker, Take}
 use Rattle.tk_queue_replay.specs.declared.replays.ReplayFault.{ReplayFault}
 use Rattle.tk_queue_replay.specs.declared.replays.ReplayFault.TheVariants as faults
 use Rattle.tk_queue_replay.specs.declared.replays.Replayed.{Replayed}
-use Rattle.tk_queue_core.specs.CoreState.{CoreState, has_ended, fresh, emits, ends}
+use Rattle.tk_queue_session.specs.CoreState.{CoreState, has_ended, fresh, emits, ends}
 
 -- a moment of a replay: the core, how many events each worker emitted, from worker 1 on, and the
 -- record of what was taken

@@ -6,7 +6,7 @@ use Rattle.tk_record.specs.Mixing.{IsWorkerOf}
 use Rattle.tk_record.specs.Lines.{joined}
 use Rattle.tk_queue_replay.specs.declared.turns.Turn.{Turn}
 use Rattle.tk_queue_replay.specs.declared.turns.Turn.TheVariants.{Worker, Take}
-use Rattle.tk_queue_core.specs.Limits.{most_workers}
+use Rattle.tk_queue_session.specs.Limits.{most_workers}
 use Rattle.tk_queue_replay.specs.Replay.{IsTurn}
 
 -- `W|n`

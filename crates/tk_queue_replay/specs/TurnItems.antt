@@ -3,10 +3,10 @@
 use Rattle.std.specs.Prelude.{◌≡◌, ℕ, ◌==◌, Bool, true, false, List, ◌∷◌, ◌++◌, length, count_by}
 use Rattle.std.specs.Prelude.{slice_get, Option}
 use Rattle.tk_events.specs.declared.events.Event.{Event}
-use Rattle.tk_queue_core.specs.declared.items.Item.{Item}
+use Rattle.tk_queue_session.specs.declared.items.Item.{Item}
 use Rattle.tk_queue_replay.specs.declared.turns.Turn.{Turn}
 use Rattle.tk_queue_replay.specs.declared.turns.Turn.TheVariants.{Worker, Take}
-use Rattle.tk_queue_core.specs.Core.{script}
+use Rattle.tk_queue_session.specs.Core.{script}
 use Rattle.tk_queue_replay.specs.Replay.{script_of}
 
 abbrev pub is_worker_turn : Turn → Bool

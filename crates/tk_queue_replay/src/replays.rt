@@ -3,7 +3,7 @@ ghost use Rattle.std.specs.Prelude.{◌≡◌, ◌<◌, ◌≤◌, ◌-◌, ◌�
 ghost use Rattle.std.specs.Arc.{arc_value};
 ghost use Rattle.tk_record.specs.Entries.{with_entry};
 ghost use Rattle.tk_record.specs.Mixing.{IsWorkerOf};
-ghost use Rattle.tk_queue_core.specs.CoreState.{has_ended, fresh};
+ghost use Rattle.tk_queue_session.specs.CoreState.{has_ended, fresh};
 ghost use Rattle.tk_queue_replay.specs.Replay.{IsReplayed, IsTurn, next, count_of, take_item, turn_step, Refuses, start};
 ghost use Rattle.tk_queue_replay.specs.steps.Replay.{refusal, IsStop, Suits, IsMemory};
 ghost use Rattle.tk_queue_replay.specs.FaultTexts.{replay_fault_text};
@@ -18,7 +18,7 @@ use std::sync::Arc;
 use tk_base::MAX_WORKERS;
 use tk_events::Event;
 use tk_ids::Table;
-use tk_queue_core::{Core, CoreFault, Item};
+use tk_queue_session::{Core, CoreFault, Item};
 use tk_record::{AppendFault, Record};
 use tk_record_text::{NodesFault, WriteFault};
 use tk_streams::LoadFault;

@@ -5,8 +5,8 @@ use Rattle.std.proofs.lemmas.Bool.{cases_eq, true_from_ne_false}
 use Rattle.std.proofs.lemmas.List.Elements.{All-nil, All-cons, All-head, All-tail}
 use Rattle.std.proofs.lemmas.List.Sums.{sum_by-cons}
 use Rattle.tk_record.specs.Mixing.{IsWorkerOf, Mix}
-use Rattle.tk_queue_core.specs.Limits.{most_workers, worker_slots}
-use Rattle.tk_queue_core.specs.Core.{Core, IsCore, worker_of, items_of, entry, entries, script}
+use Rattle.tk_queue_session.specs.Limits.{most_workers, worker_slots}
+use Rattle.tk_queue_session.specs.Core.{Core, IsCore, worker_of, items_of, entry, entries, script}
 use Rattle.tk_queue_session.specs.SessionRule.{Stands, Concludes}
 use Rattle.tk_queue_session.specs.PassViews.{pass_of_receiver}
 use Rattle.tk_queue_session.specs.Closing.{Least, list_of, lists_of}
@@ -17,9 +17,9 @@ use Rattle.tk_queue_session.specs.Tokens.{sent_by, tokens_of}
 use Rattle.tk_queue_session.specs.steps.{pass_of_token}
 use Rattle.tk_queue_session.specs.Receivers.{is_marked, is_mark_of}
 use Rattle.tk_events.specs.declared.events.Event.{Event}
-use Rattle.tk_queue_core.specs.declared.items.Item.{Item}
-use Rattle.tk_queue_core.specs.declared.items.Item.TheVariants.{Entry as Emitted, End}
-use Rattle.tk_queue_core.proofs.CoreSteps.{filter-append}
+use Rattle.tk_queue_session.specs.declared.items.Item.{Item}
+use Rattle.tk_queue_session.specs.declared.items.Item.TheVariants.{Entry as Emitted, End}
+use Rattle.tk_queue_session.proofs.CoreInvariant.{filter-append}
 use Rattle.tk_queue_session.proofs.SharedSteps.{holder_worker, marked_among, events_in, events_among, events_scripted}
 
 -- P holds at none of the workers below worker n

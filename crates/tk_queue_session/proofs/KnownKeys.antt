@@ -13,7 +13,7 @@ use Rattle.tk_events.specs.declared.events.Entry.{Entry}
 use Rattle.tk_record.specs.Entries.{of_kind, registers, registered, desc, desc_in}
 use Rattle.tk_record.specs.Record.{is_next, is_known}
 use Rattle.tk_record.specs.Mixing.{of_worker}
-use Rattle.tk_queue_core.proofs.ListCuts.{cut_last}
+use Rattle.tk_queue_session.proofs.ListCuts.{cut_last}
 use Rattle.tk_queue_session.specs.Limits.{most_events}
 use Rattle.tk_queue_session.specs.Emission.{entry_by, entries_by, is_known_after, MayEmit, Emission}
 use Rattle.tk_base.proofs.Lists.{no_split}

@@ -1,3 +1,5 @@
+pub mod CoreInvariant
+pub mod ListCuts
 pub mod SharedSteps
 pub mod RuleSteps
 pub mod CloseConclusions

@@ -14,16 +14,14 @@ use Rattle.tk_events.specs.Registration.{registered_key}
 use Rattle.tk_record.specs.Entries.{of_kind, desc_in}
 use Rattle.tk_record.specs.Record.{is_next}
 use Rattle.tk_record.specs.Mixing.{IsWorkerOf, of_worker}
-use Rattle.tk_queue_core.specs.Limits.{most_workers, worker_slots}
-use Rattle.tk_queue_core.specs.declared.items.Item.{Item}
-use Rattle.tk_queue_core.specs.declared.items.Item.TheVariants.{Entry as Emitted, End}
-use Rattle.tk_queue_core.specs.Core.{worker_of, entries}
-use Rattle.tk_queue_core.proofs.CoreSteps.{filter-append}
+use Rattle.tk_queue_session.specs.Limits.{most_workers, worker_slots, most_events}
+use Rattle.tk_queue_session.specs.declared.items.Item.{Item}
+use Rattle.tk_queue_session.specs.declared.items.Item.TheVariants.{Entry as Emitted, End}
+use Rattle.tk_queue_session.specs.Core.{worker_of, entries}
+use Rattle.tk_queue_session.proofs.CoreInvariant.{filter-append}
 use Rattle.tk_queue_session.specs.declared.session_rules.PassView.{PassView}
-use Rattle.tk_queue_session.specs.Limits.{most_events}
 use Rattle.tk_queue_session.specs.Emission.{entries_by, is_known_after}
-use Rattle.tk_queue_session.specs.PassViews.{pass_of_receiver, popped, Pops, MayTake}
-use Rattle.tk_queue_session.specs.PassViews.{MayBeEmittedNext}
+use Rattle.tk_queue_session.specs.PassViews.{pass_of_receiver, popped, Pops, MayTake, MayBeEmittedNext}
 use Rattle.tk_queue_session.specs.Receivers.{IsReceiver, IsRecordable, MayFollow, taken_of, is_marked, is_mark_of}
 use Rattle.tk_queue_session.proofs.KnownKeys.{known_after, own_entries, some_among, registers_among}
 

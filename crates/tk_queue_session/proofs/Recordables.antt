@@ -16,8 +16,7 @@ use Rattle.tk_record.specs.declared.records.AppendFault.TheVariants as appends
 use Rattle.tk_record.specs.Entries.{of_kind, registers, registered, desc_in}
 use Rattle.tk_record.specs.Record.{is_next, is_known}
 use Rattle.tk_record.specs.Mixing.{IsWorkerOf, of_worker}
-use Rattle.tk_queue_core.specs.Limits.{most_workers}
-use Rattle.tk_queue_session.specs.Limits.{most_events}
+use Rattle.tk_queue_session.specs.Limits.{most_workers, most_events}
 use Rattle.tk_queue_session.specs.Recordable.{IsNeverRefused, IsShort}
 use Rattle.tk_queue_session.proofs.KnownKeys.{known_after}
 use Rattle.tk_queue_session.proofs.ReceiverSteps.{few_more}

@@ -9,21 +9,21 @@ use Rattle.crossbeam_queue.specs.Fifo.{Pushes, Forks, Merges, Learns}
 use Rattle.crossbeam_queue.specs.Fifo.{Pops as PopsUnder}
 use Rattle.crossbeam_queue.proofs.Lists.{at_set}
 use Rattle.tk_events.specs.declared.events.Event.{Event}
-use Rattle.tk_queue_core.specs.declared.items.Item.{Item}
-use Rattle.tk_queue_core.specs.declared.items.Item.TheVariants.{Entry as Emitted, End}
+use Rattle.tk_queue_session.specs.declared.items.Item.{Item}
+use Rattle.tk_queue_session.specs.declared.items.Item.TheVariants.{Entry as Emitted, End}
 use Rattle.tk_queue_session.specs.declared.session_rules.SenderPass.{SenderPass}
 use Rattle.tk_queue_session.specs.declared.session_rules.ReceiverPass.{ReceiverPass}
 use Rattle.tk_queue_session.specs.declared.session_rules.PassView.{PassView}
 use Rattle.tk_queue_session.specs.declared.session_rules.PassView.TheVariants.{Sends, Takes, Spent}
 use Rattle.tk_record.specs.Mixing.{IsWorkerOf, of_worker}
-use Rattle.tk_queue_core.specs.Core.{Core, IsCore, worker_of, push, put, take_first, items_of, entries}
+use Rattle.tk_queue_session.specs.Core.{Core, IsCore, worker_of, push, put, take_first, items_of, entries}
 use Rattle.tk_queue_session.specs.Limits.{most_events}
 use Rattle.tk_queue_session.specs.SessionRule.{SessionLayout, Session, Fits, Stands, Concludes}
 use Rattle.tk_queue_session.specs.PassViews.{pass_of_receiver, pass_of_sender, new_receiver, pushed, popped, Pops, with_worker, next_sender, with_token, MayPush, MayTake, IsNext, IsReader, IsFirst, MayTakeIn, MayBeEmittedNext, with_bit}
 use Rattle.tk_queue_session.specs.CoreSteps.{IsStateOf, HoldsStates, fresh_core, BeginsFresh, PushIsStep, FullIsNone, TakeIsStep, EmptyIsNone, SplitIsNone, BitIsNone, JoinIsNone}
 use Rattle.tk_queue_session.specs.Emission.{MayEmit, Emission}
 use Rattle.tk_queue_session.proofs.KnownKeys.{emission_none, emission_more}
-use Rattle.tk_queue_core.proofs.CoreSteps.{filter-append, pushes_core, takes, put-same, put-other}
+use Rattle.tk_queue_session.proofs.CoreInvariant.{filter-append, pushes_core, takes, put-same, put-other}
 use Rattle.tk_queue_session.proofs.SharedSteps.{events_in, events_in-append, events_among, events_scripted, widens, waiting_worker, unmarked}
 use Rattle.tk_queue_session.specs.Marks.{is_marked}
 

@@ -20,11 +20,10 @@ use Rattle.tk_events.specs.Event.{is_lawful}
 use Rattle.tk_events.specs.Registration.{registered_key}
 use Rattle.tk_record.specs.Entries.{described, registers, registered, desc, desc_in}
 use Rattle.tk_record.specs.Record.{is_next}
-use Rattle.tk_queue_core.specs.Limits.{most_workers}
-use Rattle.tk_queue_core.specs.Core.{entry}
+use Rattle.tk_queue_session.specs.Limits.{most_workers, most_events}
+use Rattle.tk_queue_session.specs.Core.{entry}
 use Rattle.tk_queue_session.specs.declared.sender_faults.SendFault.TheVariants as unsent
 use Rattle.tk_queue_session.specs.declared.session_rules.PassView.{PassView}
-use Rattle.tk_queue_session.specs.Limits.{most_events}
 use Rattle.tk_queue_session.specs.Emission.{MayEmit, Emission, is_dynamic, is_plain, registrations, entry_by, entries_by}
 use Rattle.tk_queue_session.specs.PassViews.{pass_of_sender, pushed, MayPush}
 use Rattle.tk_queue_session.specs.Senders.{SenderView, SenderFields, EmitsLawfully, fresh_senders, knows, refusal_of, id_registered, IsSender, sent_of}

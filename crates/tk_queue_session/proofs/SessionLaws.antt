@@ -5,12 +5,12 @@ use mathlib.Core.Logic.{dite}
 use native.Mathlib.Decide.{dec_lt}
 use Rattle.std.proofs.lemmas.Bool.{and_parts, lt-ltb}
 use Rattle.std.proofs.lemmas.List.{append-nil}
-use Rattle.tk_queue_core.proofs.ListCuts.{cut_last}
+use Rattle.tk_queue_session.proofs.ListCuts.{cut_last}
 use Rattle.tk_record.specs.Mixing.{IsWorkerOf}
 use Rattle.tk_record.specs.Record.{is_next}
 use Rattle.tk_events.specs.declared.events.Event.{Event}
 use Rattle.tk_events.specs.Event.{is_lawful}
-use Rattle.tk_queue_core.specs.Core.{items_of, script}
+use Rattle.tk_queue_session.specs.Core.{items_of, script}
 use Rattle.tk_queue_session.specs.declared.close_faults.CloseReason.{CloseReason}
 use Rattle.tk_queue_session.specs.declared.close_faults.CloseReason.TheVariants.{Missing, Twice, NotDrained}
 use Rattle.tk_queue_session.specs.declared.sender_faults.SendFault.TheVariants as unsent

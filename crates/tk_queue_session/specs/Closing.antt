@@ -11,7 +11,7 @@ use Rattle.tk_queue_session.specs.declared.session_rules.PassView.TheVariants.{T
 use Rattle.tk_queue_session.specs.Senders.{SenderView}
 use Rattle.tk_queue_session.specs.Receivers.{ReceiverView, is_marked}
 use Rattle.tk_queue_session.specs.Tokens.{tokens_of, sent_by}
-use Rattle.tk_queue_core.specs.Core.{items_of, script}
+use Rattle.tk_queue_session.specs.Core.{items_of, script}
 
 -- A session that was closed: what each token's worker sent, beside the worker's number, and how
 -- many events that were, by the workers' numbers.

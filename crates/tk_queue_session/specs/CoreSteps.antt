@@ -3,8 +3,8 @@
 use Rattle.std.specs.Prelude.{◌≡◌, ◌↔◌, ℕ, false, List, [], ◌∷◌, ◌++◌, slice_set}
 use mathlib.Core.Option.{some}
 use lib.ListN.{get_elem?}
-use Rattle.tk_queue_core.specs.declared.items.Item.{Item}
-use Rattle.tk_queue_core.specs.Core.{Core, push, take_first}
+use Rattle.tk_queue_session.specs.declared.items.Item.{Item}
+use Rattle.tk_queue_session.specs.Core.{Core, push, take_first}
 use Rattle.tk_queue_session.specs.declared.session_rules.PassView.{PassView}
 use Rattle.tk_queue_session.specs.SessionRule.{Session}
 use Rattle.tk_queue_session.specs.PassViews.{MayPush, MayTakeIn, IsReader, IsFirst}

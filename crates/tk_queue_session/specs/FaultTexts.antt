@@ -4,12 +4,19 @@ use Rattle.std.specs.Fmt.{decimal}
 use Rattle.tk_ids.specs.FaultTexts.{id_fault_text}
 use Rattle.tk_queue_session.specs.declared.close_faults.CloseReason.{CloseReason}
 use Rattle.tk_queue_session.specs.declared.close_faults.CloseReason.TheVariants as closes
+use Rattle.tk_queue_session.specs.declared.cores.CoreFault.{CoreFault}
+use Rattle.tk_queue_session.specs.declared.cores.CoreFault.TheVariants as cores
 use Rattle.tk_queue_session.specs.declared.sender_faults.SendFault.{SendFault}
 use Rattle.tk_queue_session.specs.declared.sender_faults.SendFault.TheVariants as sends
 use Rattle.tk_queue_session.specs.declared.sender_faults.RegisterFault.{RegisterFault}
 use Rattle.tk_queue_session.specs.declared.sender_faults.RegisterFault.TheVariants as registers
 use Rattle.tk_queue_session.specs.declared.sessions.OpenFault.{OpenFault}
 use Rattle.tk_queue_session.specs.declared.sessions.OpenFault.TheVariants as opens
+
+abbrev pub core_fault_text : CoreFault → List ℕ
+core_fault_text cores.Worker = codes "no such worker"
+core_fault_text cores.AfterEnd = codes "worker has ended"
+core_fault_text cores.Memory = codes "out of memory"
 
 abbrev pub send_fault_text : SendFault → List ℕ
 send_fault_text (sends.UnknownNode event) = codes "unknown key " ++ decimal event.key

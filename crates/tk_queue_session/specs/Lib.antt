@@ -1,4 +1,6 @@
 pub mod Limits
+pub mod Core
+pub mod CoreState
 pub mod Emission
 pub mod Marks
 pub mod PassViews

@@ -1,8 +1,8 @@
 -- The end marks among the items of a session.
 use Rattle.std.specs.Prelude.{ℕ, ◌==◌, Bool, false, List}
 use Rattle.std.specs.List.{list_any}
-use Rattle.tk_queue_core.specs.declared.items.Item.{Item}
-use Rattle.tk_queue_core.specs.declared.items.Item.TheVariants.{Entry as Emitted, End}
+use Rattle.tk_queue_session.specs.declared.items.Item.{Item}
+use Rattle.tk_queue_session.specs.declared.items.Item.TheVariants.{Entry as Emitted, End}
 
 -- whether the item is the mark of w
 abbrev pub is_mark_of : ℕ → Item → Bool

@@ -12,13 +12,12 @@ use Rattle.tk_events.specs.Registration.{registered_key}
 use Rattle.tk_record.specs.Record.{is_known}
 use Rattle.tk_record.specs.Recorded.{Recorded}
 use Rattle.tk_record.specs.Entries.{desc, desc_in}
-use Rattle.tk_queue_core.specs.Limits.{most_workers}
+use Rattle.tk_queue_session.specs.Limits.{most_workers, most_events}
 use Rattle.tk_queue_session.specs.declared.sender_faults.SendFault.{SendFault}
 use Rattle.tk_queue_session.specs.declared.sender_faults.SendFault.TheVariants.{UnknownNode}
 use Rattle.tk_queue_session.specs.declared.sender_faults.SendFault.TheVariants.{Unlawful, Limit}
 use Rattle.tk_queue_session.specs.declared.session_rules.PassView.{PassView}
 use Rattle.tk_queue_session.specs.declared.session_rules.PassView.TheVariants.{Sends}
-use Rattle.tk_queue_session.specs.Limits.{most_events}
 use Rattle.tk_queue_session.specs.Emission.{Emission, is_plain, registrations, entry_by, entries_by}
 use Rattle.tk_queue_session.specs.PassViews.{pass_of_sender}
 

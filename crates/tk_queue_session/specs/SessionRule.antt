@@ -1,13 +1,13 @@
 -- The rule of a session's queue: what it holds and what the passes know is a state of the core.
 use Rattle.std.specs.Prelude.{◌≡◌, ℕ, true, List, All}
 use Rattle.tk_record.specs.Mixing.{IsWorkerOf}
-use Rattle.tk_queue_core.specs.declared.items.Item.{Item}
+use Rattle.tk_queue_session.specs.declared.items.Item.{Item}
 use Rattle.tk_queue_session.specs.declared.session_rules.SenderPass.{SenderPass}
 use Rattle.tk_queue_session.specs.declared.session_rules.PassView.{PassView}
 use Rattle.tk_queue_session.specs.Emission.{Emission}
 use mathlib.Core.Option.{some}
 use lib.ListN.{get_elem?}
-use Rattle.tk_queue_core.specs.Core.{Core, IsCore}
+use Rattle.tk_queue_session.specs.Core.{Core, IsCore}
 use Rattle.tk_queue_session.specs.declared.session_rules.PassView.TheVariants.{Sends, Takes, Spent}
 
 -- a token's list is what its worker sent, and the worker has ended

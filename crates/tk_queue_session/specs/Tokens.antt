@@ -3,7 +3,7 @@ use Rattle.std.specs.Prelude.{◌≡◌, ℕ, ◌≤◌, ◌==◌, true, if◌th
 use Rattle.std.specs.Prelude.{count_by}
 use Rattle.tk_ids.specs.declared.descriptors.Descriptor.{Descriptor}
 use Rattle.tk_events.specs.declared.events.Event.{Event}
-use Rattle.tk_queue_core.specs.Limits.{most_workers}
+use Rattle.tk_queue_session.specs.Limits.{most_workers}
 use Rattle.tk_queue_session.specs.declared.session_rules.PassView.{PassView}
 use Rattle.tk_queue_session.specs.Emission.{Emission}
 use Rattle.tk_queue_session.specs.PassViews.{pass_of_sender}

@@ -2,7 +2,7 @@
 ghost use Rattle.std.specs.Prelude.{◌≡◌, ◌↔◌, ◌<◌, [], ℕ, Bool, false, List, None, length};
 ghost use Rattle.tk_events.specs.declared.events.Event.{Event};
 ghost use Rattle.tk_record.specs.Mixing.{IsWorkerOf};
-ghost use Rattle.tk_queue_core.specs.Core.{items_of, script};
+ghost use Rattle.tk_queue_session.specs.Core.{items_of, script};
 ghost use Rattle.tk_queue_session.specs.declared.close_faults.CloseReason.{CloseReason};
 ghost use Rattle.tk_queue_session.specs.Closing.{IsCloseFault, IsComplete};
 ghost use Rattle.tk_queue_session.specs.CoreSteps.{HoldsStates, BeginsFresh, PushIsStep, FullIsNone, TakeIsStep, EmptyIsNone, SplitIsNone, BitIsNone, JoinIsNone};
@@ -12,13 +12,13 @@ ghost use Rattle.tk_queue_session.specs.Receivers.{NothingWaited, ReceiverView};
 ghost use Rattle.tk_queue_session.specs.Recordable.{IsNeverRefused, IsShort};
 ghost use Rattle.tk_queue_session.specs.Senders.{EmitsLawfully, IsLawfulAfter, SenderView, refusal_of, sends};
 
+use crate::items::Item;
 use crate::limits::MAX_CAPACITY;
 use crate::session_rules::{
     JoinSender, PassView, ReceiverPop, SenderPush, SessionRule, SplitSender, WithOneBit,
     WithZeroBit,
 };
 use crossbeam_queue::protocol::{Join, Outcome, Protocol, Split};
-use tk_queue_core::Item;
 
 /// Shows that what a session's queue holds and what its passes know is a state of the core between
 /// any two steps, and that each step is the core's or none.

@@ -2,6 +2,8 @@
 #![tactic(auto)]
 
 mod close_faults;
+mod cores;
+mod items;
 pub mod laws;
 mod limits;
 mod pushes;
@@ -13,6 +15,8 @@ mod sessions;
 mod tokens;
 
 pub use close_faults::{CloseFault, CloseReason};
+pub use cores::{Core, CoreFault};
+pub use items::Item;
 pub use limits::MAX_CAPACITY;
 pub use receivers::{Closed, Receiver};
 pub use sender_faults::{RegisterFault, SendFault};

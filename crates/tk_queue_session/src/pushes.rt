@@ -3,9 +3,9 @@ ghost use Rattle.std.specs.Prelude.{◌≡◌, MatchResult};
 ghost use Rattle.crossbeam_queue.specs.Passes.{view, IsPassOf, IsSamePass};
 ghost use Rattle.tk_queue_session.specs.PassViews.{MayPush, pushed};
 
+use crate::items::Item;
 use crate::session_rules::{EventQueue, QueuePass, SenderPush};
 use std::sync::Wait;
-use tk_queue_core::Item;
 use tk_waiting::RetryDelay;
 
 /// Pushes the item.

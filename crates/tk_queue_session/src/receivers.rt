@@ -3,13 +3,14 @@ ghost use Rattle.std.specs.Prelude.{◌≡◌, ℕ, ◌≤◌, false, [], All, l
 ghost use Rattle.std.specs.Arc.{arc_value};
 ghost use Rattle.crossbeam_queue.specs.Passes.{view, IsPassOf};
 ghost use Rattle.tk_record.specs.Mixing.{IsWorkerOf, Mix};
-ghost use Rattle.tk_queue_core.specs.Core.{worker_of, entries};
+ghost use Rattle.tk_queue_session.specs.Core.{worker_of, entries};
 ghost use Rattle.tk_queue_session.specs.PassViews.{pass_of_receiver};
 ghost use Rattle.tk_queue_session.specs.Receivers.{fresh_receiver, takes, MayBeTaken, IsRecordable, NothingWaited, is_marked};
 ghost use Rattle.tk_queue_session.specs.Tokens.{sent_by};
 ghost use Rattle.tk_queue_session.specs.Closing.{IsComplete, EndWithMarks, sent_in};
 
 use crate::close_faults::{CloseFault, CloseReason};
+use crate::items::Item;
 use crate::limits::WORKER_SLOTS;
 use crate::senders::Ended;
 use crate::session_rules::{AllSent, EventQueue, JoinSender, QueuePass, ReceiverPop};
@@ -21,7 +22,6 @@ use std::marker::Model;
 use std::sync::{Arc, Wait};
 use tk_base::MAX_WORKERS;
 use tk_ids::Table;
-use tk_queue_core::Item;
 
 /// Takes the items of a session. Contracts see the session, its table, its number of workers and
 /// the list of what was taken.
@@ -66,7 +66,7 @@ pub struct Closed {
 impl Model for Closed {
     ghost use Rattle.std.specs.Prelude.{◌≡◌, length};
     ghost use Rattle.crossbeam_queue.specs.Passes.{view as seen};
-    ghost use Rattle.tk_queue_core.specs.Limits.{worker_slots};
+    ghost use Rattle.tk_queue_session.specs.Limits.{worker_slots};
     ghost use Rattle.tk_queue_session.specs.Closing.{ClosedView, lists_of};
 
     ghost Value = { ClosedView };

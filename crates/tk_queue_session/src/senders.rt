@@ -9,6 +9,7 @@ ghost use Rattle.tk_queue_session.specs.Senders.{record_of_sender, knows, sends,
 ghost use Rattle.tk_queue_session.specs.Registering.{HasRoom, IsNew, child, IsRegisteredAs};
 ghost use Rattle.tk_queue_session.specs.steps.{IsChildMade};
 
+use crate::items::Item;
 use crate::pushes::{push, try_push};
 use crate::sender_faults::{RegisterFault, SendFault};
 use crate::session_rules::{EventQueue, QueuePass};
@@ -18,7 +19,6 @@ use std::sync::{Arc, Wait};
 use tk_base::{MAX_EVENTS, MAX_WORKERS};
 use tk_events::{Entry, Event, Kind, Payload, registered_key};
 use tk_ids::{DType, Descriptor, IdFault, Locks, MAX_DESCRIPTORS, Segment, Table, Text, UniqueId};
-use tk_queue_core::Item;
 
 /// Emits the events of one worker of a session.
 ///

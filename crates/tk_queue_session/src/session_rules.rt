@@ -1,10 +1,10 @@
 //! The queue of a session, its rule, and what each step shows. Most types here are for the proofs
 //! alone.
+use crate::items::Item;
 use crossbeam_queue::protocol::{Join, Lesson, Outcome, Protocol, Split};
 use crossbeam_queue::{Pass, RuledArrayQueue};
 use std::collections::LinkedList;
 use tk_events::Event;
-use tk_queue_core::Item;
 
 /// What a sender's pass knows. No value of it is made.
 pub struct SenderPass {

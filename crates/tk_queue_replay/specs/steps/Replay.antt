@@ -10,7 +10,7 @@ use Rattle.tk_record_text.specs.Reading.{number_of}
 use Rattle.tk_record_text.specs.steps.Reading.{◌>>=◌}
 use Rattle.tk_queue_replay.specs.declared.turns.Turn.{Turn}
 use Rattle.tk_queue_replay.specs.declared.turns.Turn.TheVariants.{Worker, Take}
-use Rattle.tk_queue_core.specs.Limits.{most_workers}
+use Rattle.tk_queue_session.specs.Limits.{most_workers}
 use Rattle.tk_record.specs.Recorded.{Recorded}
 use Rattle.tk_record.specs.declared.records.AppendFault.TheVariants as appends
 use Rattle.tk_queue_replay.specs.declared.replays.ReplayFault.TheVariants as faults

@@ -1,7 +1,7 @@
 use Rattle.testkit_headline.proofs.Sessions.{mixes, nothing_after}
 use Rattle.testkit_headline.proofs.Records.{counts, filters, yes_exactly, reported}
 use Rattle.tk_locks.specs.LockWord.{holdings}
-use Rattle.tk_queue_core.specs.Core.{entries}
+use Rattle.tk_queue_session.specs.Core.{entries}
 use Rattle.testkit_headline.proofs.laws.headline.Goals as goal
 
 pub returns : goal.returns

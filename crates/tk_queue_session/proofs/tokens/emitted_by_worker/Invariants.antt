@@ -1,5 +1,5 @@
 use Rattle.std.proofs.Common.{◌≡◌, ◌+◌, ◌<◌, ◌≤◌, ◌⊎◌, ℕ, length, slice_index}
-use Rattle.tk_queue_core.specs.Limits.{worker_slots}
+use Rattle.tk_queue_session.specs.Limits.{worker_slots}
 use Rattle.tk_queue_session.specs.Tokens.{sent_by}
 use Rattle.tk_queue_session.proofs.tokens.emitted_by_worker.Given as goal
 

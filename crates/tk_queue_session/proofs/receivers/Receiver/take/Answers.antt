@@ -1,5 +1,5 @@
 use Rattle.std.proofs.Common.{◌≡◌, false, sym, subst, ◌∙◌}
-use Rattle.tk_queue_core.specs.declared.items.Item.TheVariants.{Entry as Emitted}
+use Rattle.tk_queue_session.specs.declared.items.Item.TheVariants.{Entry as Emitted}
 use Rattle.crossbeam_queue.specs.Passes.{view}
 use Rattle.tk_queue_session.specs.PassViews.{IsReader}
 use Rattle.tk_queue_session.specs.Receivers.{ReceiverView, MayBeTaken, taken_of, is_marked}

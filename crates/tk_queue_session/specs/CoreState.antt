@@ -3,11 +3,11 @@ use Rattle.std.specs.Prelude.{◌≡◌, ℕ, Bool, true, false, List, [], ◌�
 use Rattle.std.specs.Prelude.{replicate}
 use Rattle.tk_events.specs.declared.events.Event.{Event}
 use Rattle.tk_record.specs.Mixing.{IsWorkerOf}
-use Rattle.tk_queue_core.specs.Limits.{worker_slots}
-use Rattle.tk_queue_core.specs.declared.items.Item.{Item}
-use Rattle.tk_queue_core.specs.declared.items.Item.TheVariants.{Entry as Emitted, End}
-use Rattle.tk_queue_core.specs.declared.cores.CoreFault.{CoreFault}
-use Rattle.tk_queue_core.specs.declared.cores.CoreFault.TheVariants.{Worker, AfterEnd, Memory}
+use Rattle.tk_queue_session.specs.Limits.{worker_slots}
+use Rattle.tk_queue_session.specs.declared.items.Item.{Item}
+use Rattle.tk_queue_session.specs.declared.items.Item.TheVariants.{Entry as Emitted, End}
+use Rattle.tk_queue_session.specs.declared.cores.CoreFault.{CoreFault}
+use Rattle.tk_queue_session.specs.declared.cores.CoreFault.TheVariants.{Worker, AfterEnd, Memory}
 
 -- `ended` has a mark for each worker, by its number
 pub record CoreState : Type 0 where

@@ -1,10 +1,11 @@
 //! The core of a session's queue, as a plain machine without threads.
 ghost use Rattle.std.specs.Prelude.{◌≡◌, ◌<◌, ◌≤◌, ◌∷◌, [], true, false, IfOk, OnOk, OnErr, IfErr, MatchOption, MatchResult, length, Some};
 ghost use Rattle.tk_record.specs.Mixing.{IsWorkerOf};
-ghost use Rattle.tk_queue_core.specs.CoreState.{has_ended, emits, ends, fresh, with_first, IsCoreFault};
-ghost use Rattle.tk_queue_core.specs.FaultTexts.{core_fault_text};
+ghost use Rattle.tk_queue_session.specs.CoreState.{has_ended, emits, ends, fresh, with_first, IsCoreFault};
+ghost use Rattle.tk_queue_session.specs.FaultTexts.{core_fault_text};
 
 use crate::items::Item;
+use crate::limits::WORKER_SLOTS;
 use std::alloc::{AllocError, AllocFailed, Global};
 use std::collections::VecDeque;
 use std::error::Error;
@@ -39,7 +40,7 @@ impl fmt::Display for CoreFault {
 impl Error for CoreFault {}
 
 impl From<AllocError> for CoreFault {
-    ghost use Rattle.tk_queue_core.specs.declared.cores.CoreFault.TheVariants.{Memory};
+    ghost use Rattle.tk_queue_session.specs.declared.cores.CoreFault.TheVariants.{Memory};
 
     ghost from_gives = { λ _ e. e ≡ Memory };
 
@@ -49,7 +50,7 @@ impl From<AllocError> for CoreFault {
 }
 
 impl<T: Drop> From<AllocFailed<T>> for CoreFault {
-    ghost use Rattle.tk_queue_core.specs.declared.cores.CoreFault.TheVariants.{Memory};
+    ghost use Rattle.tk_queue_session.specs.declared.cores.CoreFault.TheVariants.{Memory};
 
     ghost from_gives = { λ _ e. e ≡ Memory };
 
@@ -57,9 +58,6 @@ impl<T: Drop> From<AllocFailed<T>> for CoreFault {
         CoreFault::Memory
     }
 }
-
-/// A slot for each worker, and one for worker 0.
-const WORKER_SLOTS: usize = MAX_WORKERS as usize + 1;
 
 /// The items of a session that wait to be taken, and which workers have ended. It has no capacity.
 #[derive(Drop)]
@@ -71,8 +69,8 @@ pub struct Core {
 
 impl Model for Core {
     ghost use Rattle.std.specs.Prelude.{◌≤◌, ◌≡◌, length};
-    ghost use Rattle.tk_queue_core.specs.Limits.{most_workers, worker_slots};
-    ghost use Rattle.tk_queue_core.specs.CoreState.{CoreState};
+    ghost use Rattle.tk_queue_session.specs.Limits.{most_workers, worker_slots};
+    ghost use Rattle.tk_queue_session.specs.CoreState.{CoreState};
 
     ghost Value = { CoreState };
 

@@ -5,9 +5,9 @@ use Rattle.std.proofs.lemmas.Bool.{cases_eq}
 use Rattle.std.specs.Prelude.{filter}
 use Rattle.tk_events.specs.declared.events.Event.{Event}
 use Rattle.tk_record.specs.Mixing.{IsWorkerOf}
-use Rattle.tk_queue_core.specs.declared.items.Item.{Item}
-use Rattle.tk_queue_core.specs.declared.items.Item.TheVariants.{Entry as Emitted, End}
-use Rattle.tk_queue_core.specs.Core.{Core, IsCore, worker_of, items_of, entry, script, put, emit, finish, push, take_first}
+use Rattle.tk_queue_session.specs.declared.items.Item.{Item}
+use Rattle.tk_queue_session.specs.declared.items.Item.TheVariants.{Entry as Emitted, End}
+use Rattle.tk_queue_session.specs.Core.{Core, IsCore, worker_of, items_of, entry, script, put, emit, finish, push, take_first}
 
 pub filter-append : {X : Type 0} (p : X → Bool) (xs ys : List X) → filter p (xs ++ ys) ≡ filter p xs ++ filter p ys
 filter-append p [] ys = refl

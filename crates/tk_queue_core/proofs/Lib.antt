@@ -1,2 +1,0 @@
-pub mod CoreSteps
-pub mod ListCuts

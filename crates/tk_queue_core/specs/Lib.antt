@@ -1,4 +1,0 @@
-pub mod Limits
-pub mod Core
-pub mod CoreState
-pub mod FaultTexts
