@@ -1,13 +1,12 @@
 -- What the state of a session comes to.
 use Rattle.std.proofs.Common.{◌≡◌, ◌≢◌, ◌↔◌, ◌==◌, ℕ, Bool, true, false, ◌||◌, if◌then◌else◌, true≢false, List, [], ◌∷◌, ◌++◌, All, sym, refl, ap, ◌∙◌, subst, ⊎_elim, append_assoc, append-nil, eq-eqb, ne_eqb}
 use Rattle.std.proofs.lemmas.Bool.{cases_eq, or_left}
-use Rattle.std.proofs.lemmas.List.Elements.{All-nil, All-cons}
+use Rattle.std.proofs.lemmas.List.Elements.{filter-append, All-nil, All-cons}
 use Rattle.tk_events.specs.declared.events.Event.{Event}
 use Rattle.tk_record.specs.Mixing.{IsWorkerOf, of_worker, Mix}
 use Rattle.tk_queue_session.specs.declared.items.Item.{Item}
 use Rattle.tk_queue_session.specs.declared.items.Item.TheVariants.{Entry as Emitted, End}
 use Rattle.tk_queue_session.specs.Core.{Core, IsCore, worker_of, items_of, entries, script}
-use Rattle.tk_queue_session.proofs.CoreInvariant.{filter-append}
 use Rattle.tk_queue_session.specs.Marks.{is_marked}
 use Rattle.tk_queue_session.proofs.SharedSteps.{append_cons_ne_nil, holder_worker, events_in, events_among, events_scripted, marked_among}
 use Rattle.tk_queue_session.specs.Senders.{SenderView}

@@ -5,6 +5,7 @@ use Rattle.std.proofs.lemmas.Bool.{cases_eq}
 use Rattle.std.proofs.lemmas.List.{length-map}
 use Rattle.std.proofs.lemmas.List.Sums.{sum_by_push, sum_by-append, sum_by-cons}
 use Rattle.std.proofs.lemmas.Option.{same_Some, none-some}
+use Rattle.std.proofs.lemmas.List.Elements.{filter-append}
 use Rattle.tk_record.proofs.Registrations.{slice_get_prefix, slice_get_last}
 use Rattle.tk_events.specs.declared.events.Event.{Event}
 use Rattle.tk_queue_session.specs.declared.items.Item.{Item}
@@ -14,7 +15,7 @@ use Rattle.tk_queue_replay.specs.declared.turns.Turn.TheVariants.{Worker, Take}
 use Rattle.tk_queue_session.specs.Core.{worker_of, items_of, entry, script}
 use Rattle.tk_queue_replay.specs.TurnItems.{is_worker_turn, is_turn_of, item_after, AreItemsOf}
 use Rattle.tk_queue_session.proofs.ListCuts.{cut_last}
-use Rattle.tk_queue_session.proofs.CoreInvariant.{filter-append, items_of-own, items_of-foreign}
+use Rattle.tk_queue_session.proofs.CoreInvariant.{items_of-own, items_of-foreign}
 use Rattle.tk_base.proofs.Lists.{no_split}
 
 count_last : {X : Type 0} (p : X → Bool) (xs : List X) (x : X) → count_by p (xs ++ x ∷ []) ≡ count_by p xs + cond {A = ℕ} (p x) 1 0

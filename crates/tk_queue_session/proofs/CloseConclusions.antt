@@ -2,7 +2,7 @@
 use Rattle.std.proofs.Common.{◌≡◌, ◌≢◌, ◌==◌, ℕ, ◌<◌, ◌≤◌, ◌+◌, Bool, true, false, ◌||◌, if◌then◌else◌, true≢false, List, [], ◌∷◌, ◌++◌, map, sym, refl, ap, ◌∙◌, subst, ⊎_elim, append_assoc, eq-eqb, ne_eqb, arith}
 use Rattle.std.specs.Prelude.{All, slice_index_or, IfNone, Option, Some, None}
 use Rattle.std.proofs.lemmas.Bool.{cases_eq, true_from_ne_false}
-use Rattle.std.proofs.lemmas.List.Elements.{All-nil, All-cons, All-head, All-tail}
+use Rattle.std.proofs.lemmas.List.Elements.{filter-append, All-nil, All-cons, All-head, All-tail}
 use Rattle.std.proofs.lemmas.List.Sums.{sum_by-cons}
 use Rattle.tk_record.specs.Mixing.{IsWorkerOf, Mix}
 use Rattle.tk_queue_session.specs.Limits.{most_workers, worker_slots}
@@ -19,7 +19,6 @@ use Rattle.tk_queue_session.specs.Receivers.{is_marked, is_mark_of}
 use Rattle.tk_events.specs.declared.events.Event.{Event}
 use Rattle.tk_queue_session.specs.declared.items.Item.{Item}
 use Rattle.tk_queue_session.specs.declared.items.Item.TheVariants.{Entry as Emitted, End}
-use Rattle.tk_queue_session.proofs.CoreInvariant.{filter-append}
 use Rattle.tk_queue_session.proofs.SharedSteps.{holder_worker, marked_among, events_in, events_among, events_scripted}
 
 -- P holds at none of the workers below worker n

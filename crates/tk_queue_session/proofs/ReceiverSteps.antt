@@ -3,7 +3,7 @@ use Rattle.std.proofs.Common.{◌≡◌, ◌≢◌, ◌==◌, ℕ, zero, suc, �
 use Rattle.std.specs.Prelude.{slice_index_or, filter, nat_lt, is_some, nat_le}
 use Rattle.std.proofs.lemmas.Bool.{cases_eq, or_right}
 use Rattle.std.proofs.lemmas.List.{map-append, get_or-set_same, get_or-set_other}
-use Rattle.std.proofs.lemmas.List.Elements.{All-push}
+use Rattle.std.proofs.lemmas.List.Elements.{filter-append, All-push}
 use Rattle.tk_base.proofs.Truth.{or-false}
 use Rattle.tk_ids.specs.declared.descriptors.Descriptor.{Descriptor}
 use Rattle.tk_ids.specs.declared.tables.TheConstants.{MAX_DESCRIPTORS}
@@ -18,7 +18,6 @@ use Rattle.tk_queue_session.specs.Limits.{most_workers, worker_slots, most_event
 use Rattle.tk_queue_session.specs.declared.items.Item.{Item}
 use Rattle.tk_queue_session.specs.declared.items.Item.TheVariants.{Entry as Emitted, End}
 use Rattle.tk_queue_session.specs.Core.{worker_of, entries}
-use Rattle.tk_queue_session.proofs.CoreInvariant.{filter-append}
 use Rattle.tk_queue_session.specs.declared.session_rules.PassView.{PassView}
 use Rattle.tk_queue_session.specs.Emission.{entries_by, is_known_after}
 use Rattle.tk_queue_session.specs.PassViews.{pass_of_receiver, popped, Pops, MayTake, MayBeEmittedNext}

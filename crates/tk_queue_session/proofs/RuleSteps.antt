@@ -2,7 +2,7 @@
 use Rattle.std.proofs.Common.{◌≡◌, ◌≢◌, ◌⊎◌, ◌==◌, ℕ, zero, suc, ◌<◌, ◌≤◌, ◌+◌, ◌*◌, Bool, true, false, if◌then◌else◌, eq-eqb, length-append, true≢false, List, [], ◌∷◌, ◌++◌, length, set, sym, refl, ap, ◌∙◌, subst, inl, inr, ⊎_elim, arith}
 use Rattle.std.specs.Prelude.{⊤}
 use Rattle.std.proofs.lemmas.Bool.{cases_eq}
-use Rattle.std.proofs.lemmas.List.Elements.{All-nil, All-push, All-weaker}
+use Rattle.std.proofs.lemmas.List.Elements.{filter-append, All-nil, All-push, All-weaker}
 use mathlib.Core.Option.{some, some-injective, some-ne-none}
 use lib.ListN.{get_elem?}
 use Rattle.crossbeam_queue.specs.Fifo.{Pushes, Forks, Merges, Learns}
@@ -23,7 +23,7 @@ use Rattle.tk_queue_session.specs.PassViews.{pass_of_receiver, pass_of_sender, n
 use Rattle.tk_queue_session.specs.CoreSteps.{IsStateOf, HoldsStates, fresh_core, BeginsFresh, PushIsStep, FullIsNone, TakeIsStep, EmptyIsNone, SplitIsNone, BitIsNone, JoinIsNone}
 use Rattle.tk_queue_session.specs.Emission.{MayEmit, Emission}
 use Rattle.tk_queue_session.proofs.KnownKeys.{emission_none, emission_more}
-use Rattle.tk_queue_session.proofs.CoreInvariant.{filter-append, pushes_core, takes, put-same, put-other}
+use Rattle.tk_queue_session.proofs.CoreInvariant.{pushes_core, takes, put-same, put-other}
 use Rattle.tk_queue_session.proofs.SharedSteps.{events_in, events_in-append, events_among, events_scripted, widens, waiting_worker, unmarked}
 use Rattle.tk_queue_session.specs.Marks.{is_marked}
 

@@ -2,6 +2,7 @@
 use Rattle.std.proofs.Common.{◌≡◌, ◌≢◌, ◌⊎◌, ◌||◌, ◌==◌, ℕ, zero, suc, ◌<◌, ◌≤◌, ◌+◌, Bool, true, false, if◌then◌else◌, List, [], ◌∷◌, ◌++◌, map, sym, refl, ap, ◌∙◌, inl, inr, ⊎_elim, eq-eqb, ne_eqb, arith}
 use Rattle.std.proofs.lemmas.Bool.{cases_eq, cases_lt}
 use Rattle.std.specs.Prelude.{filter}
+use Rattle.std.proofs.lemmas.List.Elements.{filter-append}
 use Rattle.tk_events.specs.declared.events.Event.{Event}
 use Rattle.tk_events.specs.declared.events.Entry.{Entry}
 use Rattle.tk_record.specs.Mixing.{IsWorkerOf, of_worker}
@@ -9,7 +10,6 @@ use Rattle.tk_queue_session.specs.declared.items.Item.{Item}
 use Rattle.tk_queue_session.specs.declared.items.Item.TheVariants.{Entry as Emitted, End}
 use Rattle.tk_queue_session.specs.Core.{Core, IsCore, worker_of, items_of, entry, script, entries}
 use Rattle.tk_queue_session.specs.Marks.{is_mark_of, is_marked}
-use Rattle.tk_queue_session.proofs.CoreInvariant.{filter-append}
 
 -- a further worker, which has sent nothing
 pub widens : (n : ℕ) (c : Core) → IsCore n c → IsCore (n + 1) c
