@@ -56,7 +56,7 @@ abbrev pub held_word : Option NeedView → ℕ
 held_word None = 0
 held_word (Some n) = word_of n
 
--- What all `seats` seats of a book held at one moment: one of them `own`, and the others these. No two of their needs conflicted, and the word was the sum of their words.
+-- What all `seats` seats held at one moment. No two needs conflicted, and the word was their sum.
 pub record WereHeld (seats : ℕ) (own : Option NeedView) (word : ℕ) : Type 0 where
   pub others : List (Option NeedView)
   pub count : length others + 1 ≡ seats
