@@ -1,9 +1,8 @@
 -- Candidates, and the positions of the events that come nearest.
-use Rattle.std.proofs.Common.{◌≡◌, ℕ, zero, suc, ◌+◌, ◌<◌, ◌≤◌, ◌⊎◌, min, Bool, true, false, List, [], ◌∷◌, length, get_or, map, take, Option, Some, None, MatchOption, refl, sym, ap, ◌∙◌, subst, arith, inl, inr, ⊎_elim}
-use Rattle.std.specs.Prelude.{if◌then◌else◌}
+use Rattle.std.proofs.Common.{◌≡◌, ℕ, zero, suc, ◌+◌, ◌<◌, ◌≤◌, ◌⊎◌, min, Bool, true, false, List, [], ◌∷◌, length, get_or, map, take, Option, Some, None, refl, sym, ap, ◌∙◌, subst, arith, inl, inr}
 use Rattle.std.specs.List.{slice_get}
-use Rattle.std.proofs.lemmas.Bool.{cases_lt, ltb-false, ltb-true, true≢false}
-use Rattle.std.proofs.lemmas.List.{take-map}
+use Rattle.std.proofs.lemmas.Bool.{cases_lt, lt-ltb, le-ltb, true≢false}
+use Rattle.std.proofs.lemmas.List.{length-take, take-map, take-take}
 use Rattle.std.proofs.lemmas.Option.{none-some}
 use Rattle.tk_base.proofs.Lists.{get_below}
 use Rattle.tk_lanes.specs.Flags.{IsNextSet, IsNoneSet}
@@ -11,114 +10,103 @@ use Rattle.tk_events.specs.declared.events.Entry.{Entry}
 use Rattle.tk_record.specs.Recorded.{Recorded}
 use Rattle.tk_record.specs.Selections.{Selected}
 use Rattle.tk_query_conditions.specs.Cond.{Cond}
-use Rattle.tk_query_nearest.specs.Parts.{distance, missing}
-use Rattle.tk_query.proofs.AskedLemmas.{AreFlags, asked_set, asked_clear}
-use Rattle.tk_query_nearest.specs.declared.candidates.Candidate.{Candidate}
-use Rattle.tk_query_nearest.specs.steps.{admits, counted_to, is_nearer, inserted}
-use Rattle.tk_query_nearest.specs.declared.parts.TheConstants.{MAX_DISTANCE}
 use Rattle.tk_query.specs.Asked.{event_at}
+use Rattle.tk_query.proofs.AskedLemmas.{AreFlags, asked_set, asked_clear}
+use Rattle.tk_query_nearest.specs.Parts.{missing}
+use Rattle.tk_query_nearest.specs.declared.candidates.Candidate.{Candidate}
+use Rattle.tk_query_nearest.specs.steps.{counted_to, inserted}
+use Rattle.tk_query_nearest.specs.declared.parts.TheConstants.{MAX_DISTANCE}
 use Rattle.tk_query_nearest.specs.Nearness.{IsAskedFrom, IsNearest, IsNearer, distance_at, distance_of}
-use Rattle.tk_query_nearest.proofs.ViewLemmas.{told}
-use Rattle.tk_query_nearest.proofs.RankLemmas.{Has, Each, each_all, each_has, has_contains, Near, Ranked, near, put, AreBest, IsPast, best_more, best_kept, best_same, past_three, ranked_pairs}
+use Rattle.tk_query_nearest.proofs.RankLemmas.{Has, Near, Ranked, put, all_of, first_or_past, has_contains, has_take, put_has, put_has_only, ranked_pairs, ranked_put, ranked_take}
 
-abbrev pub position_of : Candidate → ℕ
+abbrev position_of : Candidate → ℕ
 position_of a = a.position
 
-abbrev pub positions : List Candidate → List ℕ
-positions list = map position_of list
-
--- each candidate has the distance of the event at its position
-abbrev pub Measured : (ℕ → ℕ) → List Candidate → Type 0
-Measured d [] = Unit {0}
-Measured d (a ∷ list) = (a.distance ≡ d a.position) × Measured d list
-
 module _ (d : ℕ → ℕ) where
-  measured_take : (n : ℕ) (list : List Candidate) → Measured d list → Measured d (take n list)
-  measured_take zero list h = tt
-  measured_take (suc n) [] h = tt
-  measured_take (suc n) (a ∷ list) h = (h.0, measured_take n list h.1)
+  abbrev pub candidate : ℕ → Candidate
+  candidate p = record { distance = d p; position = p }
 
-  near_same : (a b : Candidate) → a.distance ≡ d a.position → b.distance ≡ d b.position → is_nearer a b ≡ near d a.position b.position
-  near_same a b e f = rw (e, f) refl
+  -- what is counted up to a limit stands where all of it does
+  put_counted : (n q most k : ℕ) (ps : List ℕ) → n ≡ min (d q) most → ((x : ℕ) → Has (take k ps) x → d x ≤ most) → (k ≤ length ps) ⊎ (d q ≤ most)
+      → take k (inserted (record { distance = n; position = q }) (take k (map candidate ps))) ≡ take k (map candidate (put d q ps))
+  put_counted n q most zero ps is within enough = refl
+  put_counted n q most (suc k) [] is within enough =
+      let same : n ≡ d q = elim enough [ inl none ↦ absurd (omega arith) | inr le ↦ omega arith ] in
+      rw same refl
+  put_counted n q most (suc k) (p ∷ ps) is within enough =
+      let le = within p (inl refl) in
+      elim (cases_lt (d q) (d p)) [
+        | inl lt ↦
+            let same : n ≡ d q = omega arith in
+            rw (same, lt-ltb (d q) (d p) lt) (ap (λ l. candidate q ∷ l) (take-take k (suc k) (map candidate (p ∷ ps)) (omega arith)))
+        | inr ge ↦
+            rw (le-ltb n (d p) (omega arith), le-ltb (d q) (d p) ge)
+            (ap (λ l. candidate p ∷ l) (put_counted n q most k ps is (λ x has. within x (inr has)) (elim enough [ inl long ↦ inl (omega arith) | inr fits ↦ inr fits ])))
+      ]
 
-  either : (P : List Candidate → Type 0) (b : Bool) (xs ys : List Candidate) → P xs → P ys → P (if b then xs else ys)
-  either P true xs ys f g = f
-  either P false xs ys f g = g
+  no_farther : (p q : ℕ) → Near d p q → d p ≤ d q
+  no_farther p q (inl lt) = omega arith
+  no_farther p q (inr same) = omega arith
 
-  measured_inserted : (a : Candidate) (list : List Candidate) → a.distance ≡ d a.position → Measured d list → Measured d (inserted a list)
-  measured_inserted a [] e h = (e, tt)
-  measured_inserted a (b ∷ list) e h = either (Measured d) (is_nearer a b) (a ∷ b ∷ list) (b ∷ inserted a list) (e, h) (h.0, measured_inserted a list e h.1)
+  module _ (bound : (x : ℕ) → d x ≤ MAX_DISTANCE) where
+    within_limit : (ps : List ℕ) → Ranked d ps → (x : ℕ) → Has (take 3 ps) x → d x ≤ counted_to (take 3 (map candidate ps))
+    within_limit (a ∷ b ∷ c ∷ ps) ranked x (inl e) = subst (λ y. d y ≤ d c) e (no_farther a c (ranked.0 c (inr (inl refl))))
+    within_limit (a ∷ b ∷ c ∷ ps) ranked x (inr (inl e)) = subst (λ y. d y ≤ d c) e (no_farther b c (ranked.1.0 c (inl refl)))
+    within_limit (a ∷ b ∷ c ∷ ps) ranked x (inr (inr (inl e))) = subst (λ y. d y ≤ d c) e (omega arith)
+    within_limit (a ∷ b ∷ c ∷ ps) ranked x (inr (inr (inr none))) = absurd none
+    within_limit (a ∷ b ∷ []) ranked x has = bound x
+    within_limit (a ∷ []) ranked x has = bound x
+    within_limit [] ranked x has = bound x
 
-  map_choice : (b : Bool) (xs ys : List Candidate) → positions (if b then xs else ys) ≡ (if b then positions xs else positions ys)
-  map_choice true xs ys = refl
-  map_choice false xs ys = refl
+    counted_or_full : (q : ℕ) (ps : List ℕ) → (3 ≤ length ps) ⊎ (d q ≤ counted_to (take 3 (map candidate ps)))
+    counted_or_full q (a ∷ b ∷ c ∷ ps) = inl (omega arith)
+    counted_or_full q (a ∷ b ∷ []) = inr (bound q)
+    counted_or_full q (a ∷ []) = inr (bound q)
+    counted_or_full q [] = inr (bound q)
 
-  inserted_put : (a : Candidate) (list : List Candidate) → a.distance ≡ d a.position → Measured d list → positions (inserted a list) ≡ put d a.position (positions list)
-  inserted_put a [] e h = refl
-  inserted_put a (b ∷ list) e h =
-      map_choice (is_nearer a b) (a ∷ b ∷ list) (b ∷ inserted a list)
-      ∙ ap (λ t. if t then a.position ∷ b.position ∷ positions list else b.position ∷ positions (inserted a list)) (near_same a b e h.0)
-      ∙ ap (λ l. if near d a.position b.position then a.position ∷ b.position ∷ positions list else b.position ∷ l) (inserted_put a list e h.1)
+    -- the first three with one position more
+    pub with_more : (n q : ℕ) (ps : List ℕ) (old new : List Candidate) → Ranked d ps → old ≡ take 3 (map candidate ps) → n ≡ min (d q) (counted_to old)
+        → new ≡ take 3 (inserted (record { distance = n; position = q }) old) → new ≡ take 3 (map candidate (put d q ps))
+    with_more n q ps old new ranked is counted new_is =
+        new_is ∙ ap (λ l. take 3 (inserted (record { distance = n; position = q }) l)) is
+        ∙ put_counted n q (counted_to (take 3 (map candidate ps))) 3 ps (counted ∙ ap (λ l. min (d q) (counted_to l)) is) (within_limit ps ranked) (counted_or_full q ps)
 
-  pub measured_with : (n : ℕ) (a : Candidate) (old new : List Candidate) → new ≡ take n (inserted a old) → a.distance ≡ d a.position → Measured d old → Measured d new
-  measured_with n a old new is e h = subst (Measured d) (sym is) (measured_take n (inserted a old) (measured_inserted a old e h))
+  same_positions : (ps : List ℕ) → map position_of (map candidate ps) ≡ ps
+  same_positions [] = refl
+  same_positions (p ∷ ps) = ap (λ l. p ∷ l) (same_positions ps)
 
-  pub positions_with : (n : ℕ) (a : Candidate) (old new : List Candidate) → new ≡ take n (inserted a old) → a.distance ≡ d a.position → Measured d old → take n (put d a.position (positions old)) ≡ positions new
-  positions_with n a old new is e h = ap (take n) (sym (inserted_put a old e h)) ∙ take-map position_of n (inserted a old) ∙ ap positions (sym is)
+  pub first_positions : (ps : List ℕ) (list : List Candidate) → list ≡ take 3 (map candidate ps) → take 3 ps ≡ map position_of list
+  first_positions ps list is = sym (ap (map position_of) (is ∙ take-map candidate 3 ps) ∙ same_positions (take 3 ps))
 
--- what three candidates leave out comes after them
-pub past_candidates : (d : ℕ → ℕ) (list : List Candidate) (at n : ℕ) → Ranked d (positions list)
-    → Measured d list → length (positions list) ≤ 3
-    → ((x : ℕ) → Has (positions list) x → x < at) → n ≡ min (d at) (counted_to list)
-    → admits list n ≡ false → IsPast d 3 (positions list) at
-past_candidates d [] at n ranked measured few before counted refused =
-    absurd (true≢false refused)
-past_candidates d (a ∷ []) at n ranked measured few before counted refused =
-    absurd (true≢false refused)
-past_candidates d (a ∷ b ∷ []) at n ranked measured few before counted refused =
-    absurd (true≢false refused)
-past_candidates d (a ∷ b ∷ c ∷ x ∷ list) at n ranked measured few before counted refused =
-    absurd (omega arith)
-past_candidates d (a ∷ b ∷ c ∷ []) at n ranked (_, (_, (is, _))) few before counted refused =
-    past_three d a.position b.position c.position at ranked
-    (last (before c.position (inr (inr (inl refl)))) (ltb-false n c.distance refused))
-  where
-    last : c.position < at → c.distance ≤ n → Near d c.position at
-    last lower far = ⊎_elim {C = Near d c.position at}
-        (λ (lt : d c.position < d at). inl lt)
-        (λ (le : d at ≤ d c.position). inr (omega arith, lower))
-        (cases_lt (d c.position) (d at))
-
--- what is admitted was counted to its end
-pub admitted : (list : List Candidate) (n far : ℕ) → far ≤ MAX_DISTANCE
-    → n ≡ min far (counted_to list) → admits list n ≡ true → n ≡ far
-admitted [] n far le counted e = omega arith
-admitted (a ∷ []) n far le counted e = omega arith
-admitted (a ∷ b ∷ []) n far le counted e = omega arith
-admitted (a ∷ b ∷ c ∷ list) n far le counted e =
-    let lt = ltb-true n c.distance e in
-    omega arith
-
-pub distance_within : (asked : Selected) (c : Cond) (at : ℕ) → distance_at asked c at ≤ MAX_DISTANCE
+distance_within : (asked : Selected) (c : Cond) (at : ℕ) → distance_at asked c at ≤ MAX_DISTANCE
 distance_within asked c at = by_event (event_at asked.kept at)
   where
+    capped : (n : ℕ) → min n MAX_DISTANCE ≤ MAX_DISTANCE
+    capped n = omega arith
+
     by_event : (o : Option Entry) → distance_of asked.recorded c o ≤ MAX_DISTANCE
     by_event None = omega arith
     by_event (Some e) = capped (missing asked.recorded c e)
-      where
-        capped : (n : ℕ) → min n MAX_DISTANCE ≤ MAX_DISTANCE
-        capped n = omega arith
-
--- an event asked stands at this position, at `first` or after it and before `low`
-pub record IsSeen (asked : Selected) (first low position : ℕ) : Type 0 where
-  pub asked_from : IsAskedFrom asked first position
-  pub below : position < low
 
 -- the candidates are the nearest of the events up to a position
 pub record AreNearest (asked : Selected) (first : ℕ) (c : Cond) (low : ℕ) (list : List Candidate) : Type 0 where
   pub on : first ≤ low
-  pub measured : Measured (distance_at asked c) list
-  pub best : AreBest (distance_at asked c) (IsSeen asked first low) 3 (positions list)
+  -- all of these events, the nearest first
+  pub all : List ℕ
+  pub ranked : Ranked (distance_at asked c) all
+  pub each : (x : ℕ) → Has all x → IsAskedFrom asked first x × (x < low)
+  pub others : (x : ℕ) → IsAskedFrom asked first x → x < low → Has all x
+  pub list_is : list ≡ take 3 (map (candidate (distance_at asked c)) all)
+
+pub nearest_none : (asked : Selected) (first : ℕ) (c : Cond) → AreNearest asked first c first []
+nearest_none asked first c = record {
+  on = omega arith;
+  all = [];
+  ranked = tt;
+  each = λ x none. absurd none;
+  others = λ x is_asked below. let from = is_asked.from in absurd (omega arith);
+  list_is = refl;
+}
 
 module _ (asked : Selected) (flags : List Bool) (are : AreFlags asked flags) (size : length flags ≡ length asked.recorded.entries) (first : ℕ) (c : Cond) (low : ℕ) (list : List Candidate) (so_far : AreNearest asked first c low list) where
   not_asked : (x : ℕ) → get_or flags x false ≡ false → IsAskedFrom asked first x → ⊥
@@ -129,93 +117,58 @@ module _ (asked : Selected) (flags : List Bool) (are : AreFlags asked flags) (si
   set_within (f ∷ flags) zero set = omega arith
   set_within (f ∷ flags) (suc x) set = let rest = set_within flags x set in omega arith
 
-  module _ (at : ℕ) (next : IsNextSet low flags at) where
-    asked_here : IsAskedFrom asked first at
-    asked_here =
-        let entry = get_below asked.recorded.entries at (let within = set_within flags at next.set in omega arith) in
-        let on = so_far.on in
-        let from = next.from in
-        record { from = omega arith; event = entry.0; event_is = asked_set asked flags are at next.set ∙ entry.1 }
+  -- the event at the next flag is one more
+  pub nearest_more : (at n : ℕ) (new : List Candidate) (r : Recorded) → IsNextSet low flags at → r ≡ asked.recorded
+      → n ≡ min (distance_of r c (slice_get r.entries at)) (counted_to list) → new ≡ take 3 (inserted (record { distance = n; position = at }) list)
+      → AreNearest asked first c (at + 1) new
+  nearest_more at n new r next same far new_is =
+      let d = distance_at asked c in
+      let on = so_far.on in
+      let from = next.from in
+      let entry = get_below asked.recorded.entries at (let within = set_within flags at next.set in omega arith) in
+      let stands = asked_set asked flags are at next.set in
+      let here : IsAskedFrom asked first at = record { from = omega arith; event = entry.0; event_is = stands ∙ entry.1 } in
+      let counted = far ∙ ap (λ (s : Recorded). min (distance_of s c (slice_get s.entries at)) (counted_to list)) same
+      ∙ ap (λ o. min (distance_of asked.recorded c o) (counted_to list)) (sym stands) in
+      record {
+        on = omega arith;
+        all = put d at so_far.all;
+        ranked = ranked_put d at so_far.all so_far.ranked (λ x has. let below = (so_far.each x has).1 in omega arith);
+        each = λ x has. elim (put_has_only d at so_far.all x has) [
+          | inl last ↦ (subst (IsAskedFrom asked first) last here, omega arith)
+          | inr old ↦ let seen = so_far.each x old in let below = seen.1 in (seen.0, omega arith)
+        ];
+        others = λ x is_asked below. put_has d at so_far.all x (elim (cases_lt x low) [
+          | inl old ↦ inr (so_far.others x is_asked old)
+          | inr high ↦ elim (cases_lt x at) [
+            | inl before ↦ absurd (not_asked x (next.least x high before) is_asked)
+            | inr after ↦ inl (omega arith)
+          ]
+        ]);
+        list_is = with_more d (distance_within asked c) n at so_far.all list new so_far.ranked so_far.list_is counted new_is;
+      }
 
-    -- how much of the event at the next flag is counted
-    pub counted_here : (r : Recorded) → r ≡ asked.recorded → (n most : ℕ)
-        → MatchOption (slice_get r.entries at) (n ≡ 0) (λ e. n ≡ min (distance r c e) most)
-        → n ≡ min (distance_at asked c at) most
-    counted_here r same n most far =
-        told r c (slice_get r.entries at) n most far
-        ∙ ap (λ (s : Recorded). min (distance_of s c (slice_get s.entries at)) most) same
-        ∙ ap (λ o. min (distance_of asked.recorded c o) most)
-        (sym (asked_set asked flags are at next.set))
-
-    only_here : (x : ℕ) → IsSeen asked first (at + 1) x → (at ≡ x) ⊎ IsSeen asked first low x
-    only_here x seen = ⊎_elim {C = (at ≡ x) ⊎ IsSeen asked first low x}
-        (λ (below : x < low). inr (record { asked_from = seen.asked_from; below = below }))
-        (λ (above : low ≤ x). ⊎_elim {C = (at ≡ x) ⊎ IsSeen asked first low x}
-        (λ (before : x < at). absurd (not_asked x (next.least x above before) seen.asked_from))
-        (λ (after : at ≤ x). let below = seen.below in inl (omega arith))
-        (cases_lt x at))
-        (cases_lt x low)
-
-    still_seen : (x : ℕ) → IsSeen asked first low x → IsSeen asked first (at + 1) x
-    still_seen x seen =
-        let below = seen.below in
-        let from = next.from in
-        record { asked_from = seen.asked_from; below = omega arith }
-
-    -- the event at the next flag is none of the nearest
-    pub nearest_kept : (n : ℕ) → n ≡ min (distance_at asked c at) (counted_to list)
-        → admits list n ≡ false → AreNearest asked first c (at + 1) list
-    nearest_kept n counted refused =
-        let d = distance_at asked c in
-        let on = so_far.on in
-        let from = next.from in
-        record {
-          on = omega arith;
-          measured = so_far.measured;
-          best = best_kept d (IsSeen asked first low) (IsSeen asked first (at + 1)) 3 at
-              (positions list) so_far.best still_seen only_here
-              (past_candidates d list at n so_far.best.ranked so_far.measured so_far.best.at_most
-              (λ x has. let below = (so_far.best.each x has).below in omega arith) counted refused);
-        }
-
-    -- the event at the next flag is one more candidate
-    module _ (a : Candidate) (is_at : a.position ≡ at)
-        (measured_here : a.distance ≡ distance_at asked c a.position) (new : List Candidate)
-        (new_is : new ≡ take 3 (inserted a list)) where
-      pub nearest_more : AreNearest asked first c (at + 1) new
-      nearest_more =
-          let d = distance_at asked c in
-          let on = so_far.on in
-          let from = next.from in
-          record {
-            on = omega arith;
-            measured = measured_with d 3 a list new new_is measured_here so_far.measured;
-            best = subst (AreBest d (IsSeen asked first (at + 1)) 3) (ap (λ n. take 3 (put d n (positions list))) (sym is_at) ∙ positions_with d 3 a list new new_is measured_here so_far.measured)
-                (best_more d (IsSeen asked first low) (IsSeen asked first (at + 1)) 3 at (positions list) so_far.best
-                still_seen
-                (record { asked_from = asked_here; below = omega arith })
-                (λ seen. let below = seen.below in omega arith)
-                only_here);
-          }
-
-  pub nearest_all : IsNoneSet low flags → IsNearest asked first c (positions list)
+  pub nearest_all : IsNoneSet low flags → IsNearest asked first c (map position_of list)
   nearest_all none =
       let d = distance_at asked c in
-      let all : AreBest d (IsAskedFrom asked first) 3 (positions list) =
-      best_same d (IsSeen asked first low) (IsAskedFrom asked first) 3 (positions list) (λ x seen. seen.asked_from) (λ x h. record { asked_from = h; below = below x h }) so_far.best in
-      record {
-        asked_from = each_all (IsAskedFrom asked first) (positions list) (each_has (IsAskedFrom asked first) (positions list) all.each);
-        order = ranked_pairs d (positions list) all.ranked;
-        others = λ q h not_in. each_all (λ p. IsNearer asked c p q) (positions list) (⊎_elim {C = Each (λ p. IsNearer asked c p q) (positions list)}
-            (λ (has : Has (positions list) q). absurd (not_in (has_contains (positions list) q has)))
-            (λ (past : IsPast d 3 (positions list) q). past.after)
-            (all.others q h));
-        at_most = all.at_most;
-        all_if_fewer = λ fewer q h. has_contains (positions list) q (⊎_elim {C = Has (positions list) q}
-            (λ (has : Has (positions list) q). has)
-            (λ (past : IsPast d 3 (positions list) q). let full = past.full in absurd (omega arith))
-            (all.others q h));
-      }
+      let all = so_far.all in
+      let ps = take 3 all in
+      let below = λ (x : ℕ) (h : IsAskedFrom asked first x). below_low x h (cases_lt x low) in
+      let past = λ (x : ℕ) (h : IsAskedFrom asked first x). first_or_past d 3 all x so_far.ranked (so_far.others x h (below x h)) in
+      subst (IsNearest asked first c) (first_positions d all list so_far.list_is) (record {
+        asked_from = all_of (IsAskedFrom asked first) ps (λ x has. (so_far.each x (has_take 3 all x has)).0);
+        order = ranked_pairs d ps (ranked_take d 3 all so_far.ranked);
+        others = λ q h not_in. elim (past q h) [
+          | inl has ↦ absurd (not_in (has_contains ps q has))
+          | inr far ↦ all_of (λ p. IsNearer asked c p q) ps far.1
+        ];
+        at_most = omega (arith, length-take 3 all);
+        all_if_fewer = λ fewer q h. elim (past q h) [
+          | inl has ↦ has_contains ps q has
+          | inr far ↦ let full = far.0 in absurd (omega arith)
+        ];
+      })
     where
-      below : (x : ℕ) → IsAskedFrom asked first x → x < low
-      below x h = ⊎_elim {C = x < low} (λ (lt : x < low). lt) (λ (le : low ≤ x). absurd (not_asked x (none.none x le) h)) (cases_lt x low)
+      below_low : (x : ℕ) → IsAskedFrom asked first x → (x < low) ⊎ (low ≤ x) → x < low
+      below_low x h (inl lt) = lt
+      below_low x h (inr le) = absurd (not_asked x (none.none x le) h)

@@ -13,7 +13,7 @@ use Rattle.tk_query_conditions.proofs.Members.{cond_of-All, cond_of-Any, conds_m
 use Rattle.tk_query_conditions.proofs.ReaderLemmas.{conds_some}
 use Rattle.tk_query.specs.Holds.{cond_holds}
 use Rattle.tk_query_nearest.specs.Members.{members, members_of, lacking}
-use Rattle.tk_query_nearest.specs.Parts.{missing, missing_of_all, fewest_missing}
+use Rattle.tk_query_nearest.specs.Parts.{missing, missing_of_all}
 use Rattle.tk_query_nearest.specs.steps.{lowered, appended}
 use Rattle.tk_query_nearest.proofs.WritingLemmas.{appended-append}
 
@@ -53,12 +53,8 @@ module _ (r : Recorded) (e : Entry) (most : ℕ) where
       → IsTotal (conds_from Nothing (take (at + 1) list)) new
   total_taken list at m total more new lt is f g h =
       let cs = conds_from Nothing (take at list) in
-      h ∙ added (missing_of_all r cs e) (missing r (cond_of m) e) total more f g
-      ∙ ap (λ all. min (missing r (All all) e) most) (sym (taken_more list at m lt is))
-    where
-      added : (s n total more : ℕ) → total ≡ min s most → more ≡ min n (most - total)
-          → total + more ≡ min (s + n) most
-      added s n total more f g = omega arith
+      let sum : total + more ≡ min (missing_of_all r cs e + missing r (cond_of m) e) most = omega arith in
+      h ∙ sum ∙ ap (λ all. min (missing r (All all) e) most) (sym (taken_more list at m lt is))
 
   grows : (cs : Conds) (rest : List Condition)
       → missing_of_all r cs e ≤ missing_of_all r (conds_from cs rest) e
@@ -74,12 +70,8 @@ module _ (r : Recorded) (e : Entry) (most : ℕ) where
   total_full list at total f full =
       let cs = conds_from Nothing (take at list) in
       let le = grows cs (drop at list) in
-      subst (λ all. IsTotal all most) (sym (rest_after list at))
-      (capped (missing_of_all r cs e) (missing_of_all r (conds_from cs (drop at list)) e) total
-      f full le)
-    where
-      capped : (m n total : ℕ) → total ≡ min m most → total ≡ most → m ≤ n → most ≡ min n most
-      capped m n total f full le = omega arith
+      let all : most ≡ min (missing_of_all r (conds_from cs (drop at list)) e) most = omega arith in
+      subst (λ all. IsTotal all most) (sym (rest_after list at)) all
 
   -- of the condition of which the fewest don't hold
 
@@ -93,23 +85,12 @@ module _ (r : Recorded) (e : Entry) (most : ℕ) where
       → new ≡ lowered r most (conds_from Nothing (take (at + 1) list)) e
   fewest_taken list at m fewest new lt is f g =
       let cs = conds_from Nothing (take at list) in
-      swapped (missing r (cond_of m) e) fewest (lowered r most cs e) new f g
-      ∙ ap (λ all. lowered r most all e) (sym (taken_more list at m lt is))
-    where
-      swapped : (n fewest low new : ℕ) → fewest ≡ low → new ≡ min n fewest → new ≡ min low n
-      swapped n fewest low new f g = omega arith
+      let least : new ≡ min (lowered r most cs e) (missing r (cond_of m) e) = omega arith in
+      least ∙ ap (λ all. lowered r most all e) (sym (taken_more list at m lt is))
 
   lowered_is : (cs : Conds) (c : Cond) → IsFewest (More cs c) (lowered r most (More cs c) e)
-  lowered_is Nothing c = either (missing r c e)
-    where
-      either : (n : ℕ) → min most n ≡ min n most
-      either n = omega arith
-  lowered_is (More cs d) c =
-      least (lowered r most (More cs d) e) (fewest_missing r (More cs d) e) (missing r c e)
-      (lowered_is cs d)
-    where
-      least : (low few n : ℕ) → low ≡ min few most → min low n ≡ min (min few n) most
-      least low few n h = omega arith
+  lowered_is Nothing c = omega arith
+  lowered_is (More cs d) c = omega (arith, lowered_is cs d)
 
   pub fewest_is : (list : List Condition) (fewest : ℕ) → 0 < length list
       → fewest ≡ lowered r most (conds_from Nothing list) e
@@ -133,11 +114,7 @@ module _ (r : Recorded) (e : Entry) (most : ℕ) where
   falls cs [] = omega arith
   falls cs (x ∷ rest) =
       let later = falls (More cs (cond_of x)) rest in
-      below (lowered r most (conds_from (More cs (cond_of x)) rest) e) (lowered r most cs e)
-      (missing r (cond_of x) e) later
-    where
-      below : (m low n : ℕ) → m ≤ min low n → m ≤ low
-      below m low n le = omega arith
+      omega (arith, later)
 
   -- nothing is less
   pub fewest_none : (list : List Condition) (at fewest : ℕ) → 0 < length list
@@ -146,13 +123,8 @@ module _ (r : Recorded) (e : Entry) (most : ℕ) where
   fewest_none list at fewest lt f none =
       let cs = conds_from Nothing (take at list) in
       let le = falls cs (drop at list) in
-      fewest_is list 0 lt
-      (subst (λ all. 0 ≡ lowered r most all e) (sym (rest_after list at))
-      (zero_below (lowered r most (conds_from cs (drop at list)) e) (lowered r most cs e) fewest
-      f none le))
-    where
-      zero_below : (m n fewest : ℕ) → fewest ≡ n → fewest ≡ 0 → m ≤ n → 0 ≡ m
-      zero_below m n fewest f none le = omega arith
+      let least : 0 ≡ lowered r most (conds_from cs (drop at list)) e = omega arith in
+      fewest_is list 0 lt (subst (λ all. 0 ≡ lowered r most all e) (sym (rest_after list at)) least)
 
 pub lacking_taken : (r : Recorded) (list : List Condition) (at : ℕ) (m : Condition) (e : Entry) (start out new : List ℕ) → at < length list → m ≡ get_or list at m
     → out ≡ appended start (lacking r (All (conds_from Nothing (take at list))) e) → new ≡ appended out (lacking r (cond_of m) e)

@@ -1,7 +1,7 @@
 //! The candidates for the nearest events.
-ghost use Rattle.std.specs.Prelude.{◌≡◌, ◌≤◌, ◌==◌, length, slice_get, take};
+ghost use Rattle.std.specs.Prelude.{◌≡◌, ◌≤◌, ◌==◌, length, nat_lt, slice_get, take};
 ghost use Rattle.tk_query_nearest.specs.Candidates.{listed, positions_of};
-ghost use Rattle.tk_query_nearest.specs.steps.{admits, counted_to, inserted, is_nearer};
+ghost use Rattle.tk_query_nearest.specs.steps.{counted_to, inserted};
 
 use crate::parts::MAX_DISTANCE;
 use std::marker::Model;
@@ -16,11 +16,11 @@ pub(crate) struct Candidate {
     pub(crate) position: usize,
 }
 
-/// Whether the first candidate comes nearer: less is missing, or as much at a lower position.
-fn is_nearer(a: Candidate, b: Candidate) -> bool
-    ensures { result ≡ is_nearer a b }
+/// Whether an event comes nearer than one at a lower position: less is missing.
+fn is_nearer(later: Candidate, earlier: Candidate) -> bool
+    ensures { result ≡ nat_lt later.distance earlier.distance }
 {
-    a.distance < b.distance || a.distance == b.distance && a.position < b.position
+    later.distance < earlier.distance
 }
 
 /// The nearest candidates so far, the nearest first.
@@ -33,7 +33,7 @@ pub(crate) enum Candidates {
 }
 
 impl Candidates {
-    /// The nearest ones of these candidates and a further one.
+    /// The nearest ones of these candidates and one at a higher position.
     pub(crate) fn with(self, a: Candidate) -> Candidates
         ensures { listed result ≡ take MAX_NEAREST (inserted a (listed self)) }
     {
@@ -59,16 +59,6 @@ impl Candidates {
         match self {
             Candidates::Three(_, _, last) => last.distance,
             _ => MAX_DISTANCE,
-        }
-    }
-
-    /// Whether an event after these candidates is among the nearest, where it lacks so much.
-    pub(crate) fn admits(self, distance: usize) -> bool
-        ensures { result ≡ admits (listed self) distance }
-    {
-        match self {
-            Candidates::Three(_, _, last) => distance < last.distance,
-            _ => true,
         }
     }
 }

@@ -1,5 +1,5 @@
 //! How many parts of a condition don't hold of an event.
-ghost use Rattle.std.specs.Prelude.{◌≡◌, ◌<◌, ◌≤◌, ◌+◌, min, not, if◌then◌else◌, bytes_eq, count_by, length, slice_get, MatchOption};
+ghost use Rattle.std.specs.Prelude.{◌≡◌, ◌<◌, ◌≤◌, ◌+◌, min, not, if◌then◌else◌, bytes_eq, count_by, length, slice_get};
 ghost use Rattle.std.specs.List.{list_any};
 ghost use Rattle.tk_record.specs.Entries.{of_kind, of_status, desc};
 ghost use Rattle.tk_record.specs.Record.{entry_of_view};
@@ -7,7 +7,8 @@ ghost use Rattle.tk_query_conditions.specs.Cond.{All, Any, Nothing};
 ghost use Rattle.tk_query_conditions.specs.CondOf.{cond_of};
 ghost use Rattle.tk_query_conditions.specs.steps.Reader.{conds_from};
 ghost use Rattle.tk_query.specs.Holds.{has_within, has_descriptor, message_contains};
-ghost use Rattle.tk_query_nearest.specs.Parts.{distance, has_key, member_parts, missing, missing_parts, other_parts, path_contains, reason_contains};
+ghost use Rattle.tk_query_nearest.specs.Nearness.{distance_of};
+ghost use Rattle.tk_query_nearest.specs.Parts.{has_key, member_parts, missing, missing_parts, other_parts, path_contains, reason_contains};
 
 use tk_events::{Kind, Outcome, Payload, Status};
 use tk_ids::Text;
@@ -227,8 +228,8 @@ pub(crate) fn distance_at(
     position: usize,
     most: usize,
 ) -> usize
-    ensures { MatchOption (slice_get «record».now.entries position) (result ≡ 0) (λ e.
-        result ≡ min (distance «record».now (cond_of condition.now) e) most) }
+    ensures { result ≡ min (distance_of «record».now (cond_of condition.now)
+        (slice_get «record».now.entries position)) most }
 {
     match record.entry(position) {
         Some(event) => distance_up_to(record, condition, &event, most),

@@ -20,9 +20,7 @@ pub fn nearest(events: &Events, first: usize, condition: &Condition) -> Nearest
     let mut low = first;
     'events: while let Some(position) = events.flags().first_from(low) {
         let distance = distance_at(record, condition, position, candidates.counted_to());
-        if candidates.admits(distance) {
-            candidates = candidates.with(Candidate { distance, position });
-        }
+        candidates = candidates.with(Candidate { distance, position });
         low = position + 1;
     }
     Nearest { candidates }
