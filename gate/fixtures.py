@@ -19,19 +19,14 @@ TOP = os.path.dirname(os.path.dirname(os.path.realpath(__file__)))
 
 PROGRAM = os.environ.get("TESTKIT_PROGRAM") or f"{TOP}/crates/testkit/out/testkit"
 """The proved program, or the one that `gate/run --program` names."""
-
 TRIED = [["test_runs"], ["test_example_engine", "test_hierarchical"], ["test_records", "test_questions"], ["test_sessions", "test_plans"]]
 """The crates of tests, those that are tried as one crate beside each other; what takes longest comes first."""
 TEST_CRATES = [crate for crates in TRIED for crate in crates]
-
 SECONDS = 300
-
 NO_PROGRAM = "no proved program"
 """The reason with which a test is skipped that needs the program."""
-
 NOT_QUICK = "left to the full gate"
 """How the reason begins with which `gate/run --quick` skips a test that costs much and that others show as well."""
-
 IS_QUICK = "TESTKIT_QUICK" in os.environ
 SHARED = [int(it) for it in os.environ.get("TESTKIT_PROCESSORS", "").split()]
 """Both ends of the pipe that `./check quick` has for the processors, with a byte for each that is free."""

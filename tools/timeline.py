@@ -38,30 +38,21 @@ sys.dont_write_bytecode = True
 from asking import PROGRAM, Failed, Refused, ask, call, run_script
 
 UNITS = {"nanoseconds": 1, "microseconds": 1_000, "milliseconds": 1_000_000, "seconds": 1_000_000_000}
-
 TYPES = {"C": "container", "T": "test", "B": "container and test"}
-
 MOST_OF_NAME = 40
 """How many letters of a thread's name a lane has."""
-
 MOST_LISTED = 50
-
 UNFINISHED = "unfinished"
 ENDINGS = {"ok": "succeeded", "abort": "aborted", "fail": "failed"}
 """The endings of a finish by the word of its tail."""
-
 LETTERS = {"succeeded": "s", "failed": "f", "aborted": "a", "skipped": "k", UNFINISHED: "u"}
 """The endings as the page has them."""
-
 NUMBERS = 1 << 32
 """How many keys, and more than how many workers, a record has: those of several records differ by multiples of it."""
-
 CUT_OFF = re.compile(rb"testkit: record is (cut off after line \d+)\n")
 """What the program says of a record that is cut off."""
-
 MOST_EXACT = 1 << 53
 """Up to here JavaScript has each number."""
-
 ESCAPES = {"<": "\\u003c", ">": "\\u003e", "&": "\\u0026"}
 """Letters that JSON may have in its texts and that a page could take for markup."""
 

@@ -102,9 +102,7 @@ def slices_of(record: Record, nanoseconds: int) -> Iterator[Dict[str, object]]:
 def trace_of(record: Record, names: Sequence[str], nanoseconds: int) -> List[Dict[str, object]]:
     """The events of the trace: the names of processes and threads, then the executions."""
     slices = list(slices_of(record, nanoseconds if record.has_times else MICROSECOND))
-    found: List[Dict[str, object]] = []
-    for number, name in enumerate(names):
-        found.append({"ph": "M", "name": "process_name", "pid": number, "tid": 0, "args": {"name": name}})
+    found = [{"ph": "M", "name": "process_name", "pid": number, "tid": 0, "args": {"name": name}} for number, name in enumerate(names)]
     for process, thread in sorted({(it["pid"], it["tid"]) for it in slices}):
         beside, worker = divmod(thread, MOST_WORKERS)
         name = f"worker {worker}" + (f", beside it {beside}" if beside else "")

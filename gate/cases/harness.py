@@ -66,9 +66,7 @@ class Output(Enum):
 
 def with_usage(line: bytes) -> bytes:
     """What is written on standard error with a fault line: where no command or no question is named, the page of usage stands below it."""
-    if line not in (b"testkit: bad command line\n", b"testkit: unknown question\n"):
-        return line
-    return line + Path(USAGE).read_bytes()
+    return line + Path(USAGE).read_bytes() * (line in (b"testkit: bad command line\n", b"testkit: unknown question\n"))
 
 
 @dataclass(frozen=True)

@@ -33,13 +33,10 @@ from compiling import WithLibrary
 KIB = 1024
 SIZE = 16 * KIB * KIB
 """How many bytes an input has: as many as it may have."""
-
 MOST_SECONDS = 300
 """How many seconds by the clock a run may take: far more than any needs, so that one that only waits has an end."""
-
 MOST_RUNS = 3
 """How often a row is run, and a pair is measured, at most that is only too slow: a busy machine makes a run slower, and none faster."""
-
 ROUNDS = 7
 """How often each question of a pair is asked."""
 

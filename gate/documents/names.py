@@ -13,12 +13,9 @@ from documents import Document
 from tree import Tree
 
 FOLDERS = ("bench", "crates", "docs", "examples", "gate", "tools", ".ci")
-
 OTHERS = "gate/documents/other_names.txt"
-
 COMMENTS = {".rt": "//", ".antt": "--"}
 """How a comment begins, by the end of a file's name."""
-
 WORD = re.compile(r"[^\W\d]\w*")
 ALONE = re.compile(r"[\w:.()?&<>]+")
 """A span that is one name, one with its type or its crate, or a call."""

@@ -107,7 +107,9 @@ def long_texts() -> List[str]:
     failures = [f"E|1|1|0|finish|fail|{most} .. (1048576 bytes)"] * 20
     reports = [f"E|1|0|0|report|{most}|{cut}", f"E|1|0|0|report|{cut}|{most}"]
     skip, end = f"E|1|1|0|skip|{cut}", f"E|1|0|0|finish|abort|{cut}"
-    return [f"N|T|[engine:e]/[t:2]|{cut}", "E|1|0|0|start", *reports, skip, *failures, end]
+    letters = [(letter, 65_536 // size, size) for size, letter in ((2, "\x80"), (3, "\u0800"), (4, "\U00010000"))]
+    least = [f"E|1|1|0|skip|{letter * most} .. ({(most + 1) * size} bytes)" for letter, most, size in letters]
+    return [f"N|T|[engine:e]/[t:2]|{cut}", "E|1|0|0|start", *reports, skip, *failures, end, *least]
 
 
 def huge_texts() -> List[str]:

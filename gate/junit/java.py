@@ -1,9 +1,11 @@
 """Compiles what is in examples/junit and here with Debian's JUnit, and runs it."""
 
+import functools
 import glob
 import os
 import shutil
 import sys
+import tempfile
 import unittest
 from dataclasses import dataclass
 from typing import Callable, Sequence
@@ -16,13 +18,11 @@ CONSOLE = f"{LIBRARY}/junit-platform-console-standalone.jar"
 OTHERS = ("junit-jupiter-api", "junit-jupiter-engine", "junit-jupiter-params", "univocity-parsers")
 JARS = [*listener.JARS, *(f"{LIBRARY}/{name}.jar" for name in OTHERS)]
 EXAMPLES, HERE = f"{fixtures.TOP}/examples/junit", os.path.dirname(os.path.realpath(__file__))
-
 KIT = os.environ.get("KIT", "")
 """The class path of JUnit's EngineTestKit with what it needs. Without it the classes in kit/ stand for it, as Debian has none."""
-
 SECONDS = 1_200
 """How many seconds a compiler, a process of cases or a build may take: far more than any needs."""
-
+ROOM = tempfile.TemporaryDirectory(prefix="classes-")
 COMMAND = ("java", "-XX:TieredStopAtLevel=1", "-XX:-UsePerfData")
 
 
@@ -64,12 +64,12 @@ class Classes:
         return ran.output.decode()
 
 
-def compiled(folder: str) -> Classes:
-    """Compiles the listener and what stands beside it, as Java 8, and tests of it."""
-    os.makedirs(folder)
-    classes = Classes(folder)
+@functools.lru_cache(maxsize=None)
+def compiled() -> Classes:
+    """Compiles, once in a process, the listener and what stands beside it, as Java 8, and tests of it."""
+    classes = Classes(ROOM.name)
     stand_in = [] if KIT else glob.glob(f"{EXAMPLES}/kit/**/*.java", recursive=True)
-    classes.compile([*stand_in, *(f"{EXAMPLES}/testkit/{name}.java" for name in listener.LISTENER)], "--release", "8")
+    classes.compile([*stand_in, *(f"{EXAMPLES}/testkit/{name}.java" for name in listener.LISTENER)], "--release", "8", "-parameters")
     classes.compile([f"{EXAMPLES}/testkit/SampleTests.java", *glob.glob(f"{HERE}/testkit/*.java")])
     return classes
 

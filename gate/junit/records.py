@@ -11,7 +11,6 @@ ENTRY = re.compile(r"E\|([0-9]+)\|([0-9]+)\|([0-9]+)\|(.*)", re.DOTALL)
 LOCK = re.compile(r"L\|([0-9]+)\|([RW]\|.+)")
 FIRST_KEYS = 65_536
 """How many keys there are of static descriptors, and of each worker's registrations."""
-
 MOST_COLUMNS = 300
 
 

@@ -10,14 +10,15 @@ from fixtures import parameterized
 from records import entries
 from test_listener import WithClasses as Compiled
 
-TESTS = 31
+TESTS = 36
 """How many tests RecordAssertTests and RecordKitTests have."""
 
 REAL = fixtures.PROGRAM if os.access(fixtures.PROGRAM, os.X_OK) else ""
 """The program, if there is one."""
 
 PACKED = "theProgramOfTheJarAnswers"
-OF_PROGRAM = ["theProgramAnswers", "theProgramJudgesLocks", "resultsWhoseRecordIsNotWholeAreRefused"]
+OF_PROGRAM = ["theProgramAnswers", "theProgramJudgesLocks", "theProgramAnswersAboutSomeEvents", "theProgramKnowsWhatIsBelowAnId"]
+OF_PROGRAM += ["theProgramKnowsWhatOverlaps", "theProgramKnowsWhatExecutionsTake", "resultsWhoseRecordIsNotWholeAreRefused"]
 MAY_ABORT = {"withoutAProgramATestIsAbortedUnlessOneIsRequired", PACKED, *([] if REAL else OF_PROGRAM)}
 """Tests that a program on the path, or no program, leaves out."""
 

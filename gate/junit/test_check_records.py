@@ -1,6 +1,7 @@
 """Tests of `tools/check-records`: records that keep both, that don't, and that can't be asked."""
 
 import os
+import signal
 
 from fixtures import PROGRAM, TOP, WithProgram, folder, parameterized, run, write
 from rows import row, rows, texts
@@ -22,6 +23,13 @@ class OfCheckRecords(WithProgram):
             write(f"{at}/{name}", text)
         ran = run([f"{TOP}/tools/check-records", *files.split()], cwd=at, env={**os.environ, "PROGRAM": PROGRAM})
         self.assertEqual((ran.status, ran.output.decode(), ran.error), (status, printed, b""))
+
+    @parameterized([("a device that fails", "exit 3", 2), ("no answer", "exit 70", 70), ("an interrupt", "kill -INT $PPID; exec sleep 9", 130)])
+    def test_status(self, line, status):
+        program = f"{folder(self)}/program"
+        write(program, f"#!/bin/sh\n{line}\n", 0o755)
+        how = {"env": {**os.environ, "PROGRAM": program}, "preexec_fn": lambda: signal.signal(signal.SIGINT, signal.SIG_DFL)}
+        self.assertEqual(run([f"{TOP}/tools/check-records", f"{TOP}/examples/two_tests.record"], **how).status, status)
 
     def test_no_program(self):
         ran = run([f"{TOP}/tools/check-records", f"{TOP}/examples/two_tests.record"], env={**os.environ, "PROGRAM": "/nowhere"})

@@ -19,16 +19,12 @@ from records import HEADER, by_id, check_lines, check_stamps, entries, locks_by_
 
 LONGER = 1 << 12
 """How many lines a file has that is longer than any sample's record."""
-
 FULL = 1 << 20
 """How many bytes a file may have in the case of a full disk."""
-
 FORWARDING = 24
 """How many threads of the case `forwarded-errors` forward what they write."""
-
 MOST_SECONDS = 60
 """How many seconds that case may take, which needs one or hangs."""
-
 LIFECYCLES = {"sample": "yes", "odd": "yes", "halt": "no end 0", "exit": "no end 0", "memory": "no end 0"}
 """What `ask lifecycle` says of what there is of each sample run: the last three are cut off while the root runs."""
 
@@ -41,7 +37,7 @@ class WithClasses(unittest.TestCase):
         cls.addClassCleanup(cls.room.cleanup)
         cls.out = f"{os.path.realpath(cls.room.name)}/out"
         os.mkdir(cls.out)
-        cls.classes, cls.service = java.compiled(f"{cls.room.name}/classes"), f"{cls.room.name}/service"
+        cls.classes, cls.service = java.compiled(), f"{cls.room.name}/service"
         java.with_service(cls.classes, cls.service)
 
     def lines(self, name):
@@ -113,8 +109,10 @@ class OfCases(WithClasses):
         samples.check_crowd(self.lines("crowd.record"), self.lines("crowd.messages"))
 
     def test_no_part_of_a_header_stays(self):
-        self.assertIn("whole false", self.facts["full-at-once"])
+        """An empty record is none, so the next run has its name."""
+        self.assertEqual(self.facts["full-at-once"].count("whole false"), 2)
         self.assertEqual(cases.read(f"{self.out}/full-at-once.record"), "")
+        self.assertFalse(os.path.exists(f"{self.out}/full-at-once.1.record"))
 
     def test_pause(self):
         samples.check_pause([it.stamp for it in entries(self.lines("times.record"))])

@@ -54,6 +54,11 @@
     point("pointerup", ...bars.failed[0]);
     saw.selected = terms("details");
     saw.sharers = state.sharers.map((it) => idOf(descriptors[it]));
+    press("Escape");
+    point("pointerdown", ...bars.failed[0]);
+    point("pointermove", bars.failed[0][0] + 40, bars.failed[0][1]);
+    point("pointerup", ...bars.failed[0]);
+    saw.dragged = state.selected;
   }
   function found(text) {
     element("search").value = text;
@@ -69,6 +74,10 @@
   saw.keys = ["ArrowRight", "ArrowDown", "ArrowRight", "ArrowRight", "ArrowLeft", "ArrowUp"].map((key) => press(key).id);
   press("+");
   saw.closer = state.right - state.left < data.end;
+  saw.ends = [[press("End"), state.right][1], [press("Home"), state.left][1], state.right < data.end];
+  press("-");
+  saw.farther = [state.left, state.right];
+  press("+");
   press("0");
   saw.whole = [state.left, state.right];
   document.querySelector("#slowest button").click();
@@ -90,5 +99,9 @@
   saw.touches = [isBeside()];
   begins[other] = ends[one];
   saw.touches.push(isBeside());
+  numbers.filter = () => Array(25).fill(other);
+  saw.beside = besideText(one).split("\n").slice(20);
+  delete numbers.filter;
+  saw.counted = [counted(1n, "stamp"), counted(2n, "stamp"), counted(1, "event"), counted(1234, "event")];
   document.body.dataset.saw = JSON.stringify(saw);
 })();

@@ -6,6 +6,7 @@ import html
 import json
 import os
 import re
+import shutil
 from itertools import accumulate
 from pathlib import Path
 
@@ -118,9 +119,12 @@ class Page(WithProgram):
         ran = run([f"{TOP}/tools/{tool}"], stdin=opened)
         self.assertEqual((ran.status, ran.output, ran.error), (70, b"", f"tools/{tool}: standard input is a folder\n".encode()))
 
-    @parameterized(["timeline", "trace", "from-open-test-reporting"])
-    def test_no_realpath(self, tool):
-        ran = run(["/bin/sh", f"{TOP}/tools/{tool}"], env={"PATH": folder(self)})
+    @parameterized([*((it, it) for it in ("timeline", "trace", "from-open-test-reporting")), ("no python3", "timeline", "realpath")])
+    def test_no_command(self, tool, *there):
+        at = folder(self)
+        for name in there:
+            os.symlink(shutil.which(name), f"{at}/{name}")
+        ran = run(["/bin/sh", f"{TOP}/tools/{tool}"], env={"PATH": at})
         self.assertEqual((ran.status, ran.output, ran.error.count(b"\n")), (70, b"", 1), ran)
 
     def test_refusals(self):
@@ -176,9 +180,9 @@ class Page(WithProgram):
 
     def test_names_of_threads(self):
         """A lane has the name of its first thread, and says that there were others."""
-        told = events("1 1 0 report|thread|main", "1 1 1 start", "1 1 2 finish|ok", "1 2 3 report|thread|other", "1 2 4 skip|off", "2 1 5 report|k|v")
+        told = events(f"1 1 0 report|thread|{'m' * 41}", "1 1 1 start", "1 1 2 finish|ok", "1 2 3 report|thread|other", "1 2 4 skip|off", "2 1 5 report|k|v")
         data = self.data(self.drawn(nodes("T 1", "T 2", "T 3") + told + events("2 3 6 start")))
-        self.assertEqual([it["thread"] for it in data["lanes"]], ["main ..", ""])
+        self.assertEqual([it["thread"] for it in data["lanes"]], [f"{'m' * 40} ..", ""])
 
     def test_several_records(self):
         """They lie on one axis, each in lanes of its own, with their own keys and positions."""
@@ -281,7 +285,7 @@ class Browser(WithProgram):
         """What is pointed at is described; once it is selected, also who ran beside it."""
         wanted = {"name": "", "id": "[engine:e]/[x:c]/[x:1]", "ending": "failed", "message": "boom", "duration": "18 \u00b5s", "worker": "1"}
         wanted.update({"stamps": "112 to 130", "events": "2 to 4", "type": "test", "locks": "Net (read)\ndb (write)"})
-        self.assertEqual(self.saw["tip"], wanted)
+        self.assertEqual((self.saw["tip"], self.saw["dragged"]), (wanted, None))
         self.assertEqual(self.saw["selected"], {**wanted, "beside it": "worker 2: [engine:e]/[x:3]"})
         self.assertEqual(self.saw["longest"]["beside it"], "".join(f"worker 1: [engine:e]/[x:c]/[x:{it}]\n" for it in (1, 2, 5)).rstrip())
         self.assertEqual(self.saw["late"]["beside it"], "worker 2: [engine:e]/[x:3]", "what ran before is not beside")
@@ -292,9 +296,9 @@ class Browser(WithProgram):
         self.assertEqual((self.saw["holders"], self.saw["nobody"]), ("2 found", "0 found"))
 
     def test_keys(self):
-        """The canvas takes the focus, the arrow keys go from bar to bar, + shows a part and 0 the whole."""
+        """The canvas takes the focus, the arrow keys go from bar to bar, + shows a part, Home and End its ends, - and 0 the whole."""
         self.assertTrue(self.saw["isFocused"])
-        self.assertEqual((self.saw["closer"], self.saw["whole"]), (True, [0, 81]))
+        self.assertEqual([self.saw[it] for it in ("closer", "ends", "farther", "whole")], [True, [81, 0, True], [0, 81], [0, 81]])
         ids = ["[engine:e]", *(f"[engine:e]/[x:c]{it}" for it in ("", "/[x:1]", "/[x:2]", "/[x:1]", ""))]
         self.assertEqual(self.saw["keys"], ids)
 
@@ -302,6 +306,7 @@ class Browser(WithProgram):
         """Letters that can't be seen are shown, a test that ends where another begins isn't beside it, and lists stay in their panel."""
         self.assertEqual(self.saw["visible"], "a\u2065[U+2066][U+2067][U+2068][U+2069]\u206a\u241b\u240d\tb")
         self.assertEqual((self.saw["touches"], self.saw["panel"]), ([True, False], [True, True, True]))
+        self.assertEqual((self.saw["beside"], self.saw["counted"]), (["and 5 others"], ["1 stamp", "2 stamps", "1 event", "1,234 events"]))
         self.assertEqual(self.saw["gapIsSeen"], [True, True])
         self.assertIn(b'<p id="cut" class="note" role="note" hidden="">', self.opened.output)
 

@@ -4,13 +4,15 @@ import static java.nio.charset.StandardCharsets.UTF_8;
 
 import java.io.File;
 import java.io.IOException;
+import java.math.BigInteger;
 import java.nio.charset.Charset;
 import java.nio.file.Files;
 import java.nio.file.Path;
-import java.util.ArrayList;
 import java.util.Arrays;
 import java.util.Collections;
+import java.util.HashSet;
 import java.util.List;
+import java.util.Set;
 import java.util.concurrent.TimeUnit;
 import java.util.regex.Matcher;
 import java.util.regex.Pattern;
@@ -68,6 +70,10 @@ public final class RecordAssert {
     private static final Pattern REFUSED_CONDITION = Pattern.compile("testkit: condition (\\d+) is (.*)\n");
     /** How an answer begins that a condition doesn't hold, with its number. */
     private static final Pattern NO = Pattern.compile("no (\\d+)\n");
+    /** The form of an id's text. */
+    private static final Pattern ID = Pattern.compile("S(/S)*".replace("S", "\\[[^\\[\\]:/]+:[^\\[\\]:/]+]"));
+    /** How an answer begins that two executions overlap. */
+    private static final Pattern OVERLAP = Pattern.compile("no \\d+ \\d+\n");
     /** What a shell takes for one word as it stands. */
     private static final Pattern PLAIN_WORD = Pattern.compile("[\\w./:=@%+,-]+");
 
@@ -87,68 +93,142 @@ public final class RecordAssert {
 
     private final RecordSource source;
     private final String selection;
+    /** What holds of each event that is asked, beside the selection: what {@link #below} and {@link #only} said, empty where they didn't. */
+    private final String below;
+    private final String only;
     private final String description;
 
-    RecordAssert(RecordSource source, String selection, String description) {
+    private RecordAssert(RecordSource source, String selection, String below, String only, String description) {
         this.source = source;
         this.selection = selection;
+        this.below = below;
+        this.only = only;
         this.description = description;
+    }
+
+    RecordAssert(RecordSource source) {
+        this(source, ALL, "", "", "");
     }
 
     /**
      * Begins assertions about a record that stands in a file.
      *
      * @param record the file; never {@code null}
+     * @return the assertions; never {@code null}
      */
     public static RecordAssert assertThat(Path record) {
         if (!Files.isRegularFile(given(record, "record"))) {
             throw new IllegalArgumentException("there is no record " + record);
         }
-        return new RecordAssert(new RecordSource(record), ALL, "");
+        return new RecordAssert(new RecordSource(record));
     }
 
     /** Returns the argument of this name, which has to be there. */
     static <T> T given(T argument, String name) {
         if (argument == null) {
-            throw new IllegalArgumentException(name + " is null");
+            throw new IllegalArgumentException(name + " must not be null");
         }
         return argument;
     }
 
-    /** Returns the same assertions with this text at the beginning of each message. */
+    /** Returns the array of this name, which has to be there, as each of its items. */
+    static <T> T[] allGiven(T[] items, String name) {
+        for (int i = 0; i < given(items, name).length; i++) {
+            given(items[i], name + "[" + i + "]");
+        }
+        return items;
+    }
+
+    /** Returns the same assertions, never {@code null}, with {@code text}, never {@code null}, at the beginning of each message. */
     public RecordAssert describedAs(String text) {
-        return new RecordAssert(source, selection, "[" + given(text, "text") + "] ");
+        return new RecordAssert(source, selection, below, only, "[" + given(text, "text") + "] ");
     }
 
     /**
      * Returns assertions of which statistics, matches, counts and lists see the events alone that the selection keeps.
      * The others always ask about the whole record.
      *
-     * @param events the selection, as {@code failed}
+     * @param events the selection, as {@code failed}; never {@code null}
+     * @return the assertions; never {@code null}
      */
     public RecordAssert on(String events) {
         if (!SELECTIONS.contains(given(events, "events"))) {
             throw new IllegalArgumentException(events + " is none of the selections " + String.join(", ", SELECTIONS));
         }
-        return new RecordAssert(source, events, description);
+        return new RecordAssert(source, events, below, only, description);
     }
 
-    /** Does {@link #on} with the events of tests. */
+    /** Does {@link #on} with the events of tests; never {@code null}. */
     public RecordAssert tests() {
         return on("tests");
     }
 
-    /** Does {@link #on} with the events of containers. */
+    /** Does {@link #on} with the events of containers; never {@code null}. */
     public RecordAssert containers() {
         return on("containers");
     }
 
-    /** Returns the path of the record, as for {@code testkit-timeline}. Of results and runs it is there until the process ends. */
+    /**
+     * Returns assertions that see, as those of {@link #on}, the events alone of which a condition holds, in place of the condition before.
+     *
+     * @param condition the condition; never {@code null}
+     * @return the assertions; never {@code null}
+     */
+    public RecordAssert only(String condition) {
+        return new RecordAssert(source, selection, below, given(condition, "condition"), description);
+    }
+
+    /**
+     * Returns assertions that see, as those of {@link #on}, the events alone of the descriptor with this id and of all below it, in place of
+     * the id before. Where the record has no such event this fails.
+     *
+     * @param id the text of the id; never {@code null}
+     * @return the assertions; never {@code null}
+     * @throws IllegalStateException where an id begins with this one and has it once more, which no condition tells
+     */
+    public RecordAssert below(String id) {
+        if (!ID.matcher(given(id, "id")).matches()) {
+            throw new IllegalArgumentException(id + " is no id");
+        }
+        String isWithin = Conditions.hasId("]/" + id);
+        String[] within = {"list", ALL, Conditions.hasId(id), isWithin};
+        List<String> lines = lines(2, within);
+        List<String> explained = lines(2, joined(within, "explain"));
+        for (int i = 0; i < lines.size(); i++) {
+            // (behind the line and three blanks stands the descriptor)
+            if (explained.get(i).startsWith(RecordText.field(id), lines.get(i).length() + 3)) {
+                throw new IllegalStateException(description + id + " stands twice in an id: " + explained.get(i));
+            }
+        }
+        String[] whole = {"list", ALL, Conditions.hasId(id), Conditions.not(isWithin)};
+        if (lines(2, whole).isEmpty()) {
+            throw refused("no event is of " + id + ", or of an id below it: " + asked(whole));
+        }
+        return new RecordAssert(source, selection, Conditions.all(whole[2], whole[3]), only, description);
+    }
+
+    private String[] conditions() {
+        return Stream.of(below, only).filter(it -> !it.isEmpty()).toArray(String[]::new);
+    }
+
+    /** Returns the condition that this one holds and those of {@link #below} and {@link #only}. */
+    private String within(String asked) {
+        return conditions().length == 0 ? asked : Conditions.all(joined(new String[] {asked}, conditions()));
+    }
+
+    /**
+     * Returns the path of the record, as for {@code testkit-timeline}; never {@code null}. Of results and runs it is there until the process
+     * ends.
+     */
     public Path recordPath() {
         return source.path();
     }
 
-    /** Asserts that each descriptor starts, finishes and nests as a listener may expect, and was registered before its first event. */
+    /**
+     * Asserts that each descriptor starts, finishes and nests as a listener may expect, and was registered before its first event.
+     *
+     * @return these assertions; never {@code null}
+     */
     public RecordAssert keepsLifecycle() {
         if (!source.unregistered().isEmpty()) {
             throw refused("nobody registered " + String.join(", ", source.unregistered()) + " before the first event: "
@@ -157,33 +237,64 @@ public final class RecordAssert {
         return ask("yes", 0, "explain", "lifecycle");
     }
 
-    /** Asserts that the events are so many, as {@code "failed=1"}. */
+    /**
+     * Asserts that the events are so many, as {@code "failed=1"}.
+     *
+     * @param counts the words, of which there is one at least; never {@code null}, nor is one of them
+     * @return these assertions; never {@code null}
+     */
     public RecordAssert hasStatistics(String... counts) {
-        String[] question = question(counts, "explain", "stats", selection);
+        String[] question = question(allGiven(counts, "counts"), "explain", "stats", selection);
         Ran ran = answer(1, counts.length, question);
+        String expected = String.join(", ", counts);
+        Stream<String> names = Arrays.stream(counts).map(it -> it.split("=")[0]);
+        if (conditions().length > 0) {
+            // (the words are good, and the program counts without a condition)
+            Set<String> seen = new HashSet<>(list());
+            String actual = names.map(it -> it + "=" + on(it).list().stream().filter(seen::contains).count()).collect(Collectors.joining(", "));
+            if (!actual.equals(expected)) {
+                throw refused(asked(listing()) + actual + " in place of " + expected, expected, actual);
+            }
+            return this;
+        }
         if (ran.status == 1 && !ran.output.isEmpty()) {
             List<String> lines = Arrays.asList(ran.output.split("\n"));
-            String actual = Arrays.stream(counts).map(it -> it.split("=")[0]).map(name -> name + lines.stream()
-                    .filter(it -> it.startsWith(name + " ")).map(it -> "=" + it.substring(name.length() + 1)).findFirst().orElse("?"))
-                    .collect(Collectors.joining(", "));
-            throw refused(asked(question) + ran.output, String.join(", ", counts), actual);
+            String actual = names.map(name -> name + lines.stream().filter(it -> it.startsWith(name + " "))
+                    .map(it -> "=" + it.substring(name.length() + 1)).findFirst().orElse("?")).collect(Collectors.joining(", "));
+            throw refused(asked(question) + ran.output, expected, actual);
         }
         return taken(ran, "skipped ", question);
     }
 
-    /** Asserts that there are as many events as conditions, and each condition holds of the event in its place. */
+    /**
+     * Asserts that there are as many events as conditions, and each condition holds of the event in its place.
+     *
+     * @param conditions the conditions, of which there is one at least; never {@code null}, nor is one of them
+     * @return these assertions; never {@code null}
+     */
     public RecordAssert matchesExactly(String... conditions) {
-        return matches("exactly", conditions);
+        return conditions().length == 0 ? matches("exactly", conditions) : matchesInOrder(conditions).hasCount(conditions.length, Conditions.all());
     }
 
-    /** Asserts that each condition holds of some event. */
+    /**
+     * Asserts that each condition holds of some event.
+     *
+     * @param conditions the conditions, of which there is one at least; never {@code null}, nor is one of them
+     * @return these assertions; never {@code null}
+     */
     public RecordAssert matchesLoosely(String... conditions) {
         return matches("loosely", conditions);
     }
 
-    /** Asserts that the conditions hold of events that follow each other, in this order. */
+    /**
+     * Asserts that the conditions hold of events that follow each other, in this order.
+     *
+     * @param conditions the conditions, of which there is one at least; never {@code null}, nor is one of them
+     * @return these assertions; never {@code null}
+     */
     public RecordAssert matchesInOrder(String... conditions) {
-        return ask("yes", conditions.length, question(conditions, "explain", selection, "in-order"));
+        String[] asked = within(conditions);
+        return ask("yes", asked.length, question(asked, "explain", selection, "in-order"));
     }
 
     /**
@@ -191,13 +302,13 @@ public final class RecordAssert {
      * next question has the next one.
      */
     private RecordAssert matches(String mode, String... conditions) {
-        String[] question = question(conditions, "explain", selection, mode);
-        Ran ran = answer(1, conditions.length, question);
+        String[] left = within(conditions);
+        String[] question = question(left, "explain", selection, mode);
+        Ran ran = answer(1, left.length, question);
         if (ran.status != 1 || ran.output.isEmpty()) {
             return taken(ran, "yes", question);
         }
         StringBuilder faults = new StringBuilder();
-        String[] left = conditions.clone();
         int before = -1;
         while (ran.status == 1) {
             Matcher no = NO.matcher(ran.output);
@@ -213,7 +324,12 @@ public final class RecordAssert {
         throw refused(asked(question) + faults);
     }
 
-    /** Asserts that there are two executions whose start meets the condition, and no two of these overlap. */
+    /**
+     * Asserts that there are two executions whose start meets the condition, and no two of these overlap.
+     *
+     * @param writers the condition; never {@code null}
+     * @return these assertions; never {@code null}
+     */
     public RecordAssert exclusive(String writers) {
         return ask("yes", 1, "explain", "exclusive", given(writers, "writers"));
     }
@@ -221,6 +337,10 @@ public final class RecordAssert {
     /**
      * Asserts that no execution whose start meets the first condition overlaps another one that meets the first or the second, and that
      * there are two such executions.
+     *
+     * @param writers the first condition; never {@code null}
+     * @param readers the second condition; never {@code null}
+     * @return these assertions; never {@code null}
      */
     public RecordAssert exclusive(String writers, String readers) {
         return ask("yes", 2, "explain", "exclusive", given(writers, "writers"), given(readers, "readers"));
@@ -229,12 +349,69 @@ public final class RecordAssert {
     /**
      * Asserts that there are two executions that conflict over a lock, and no two of these overlap. The locks are those in the record: of
      * Jupiter's {@code @ResourceLock} and {@code @Isolated}, and of each other engine whose descriptors are JUnit's {@code Node}.
+     *
+     * @return these assertions; never {@code null}
      */
     public RecordAssert keepsLocks() {
         return ask("yes", 0, "explain", "locks");
     }
 
-    /** Asserts that the condition holds of so many events. */
+    /**
+     * Asserts that an execution whose start meets the first condition overlaps another one that meets the first or the second: that
+     * {@link #exclusive(String, String)} fails for that. Where there are no two such executions this fails too.
+     *
+     * @param first the first condition; never {@code null}
+     * @param second the second condition; never {@code null}
+     * @return these assertions; never {@code null}
+     */
+    public RecordAssert overlap(String first, String second) {
+        String[] question = {"explain", "exclusive", given(first, "first"), given(second, "second")};
+        Ran ran = answer(1, 2, question);
+        if (ran.output.startsWith(ran.status == 0 ? "yes" : "no pair")) {
+            throw refused("nothing overlaps: " + asked(question) + ran.output);
+        }
+        if (ran.status == 0 || !OVERLAP.matcher(ran.output).lookingAt()) {
+            throw new IllegalStateException(ending(question, ran));
+        }
+        return this;
+    }
+
+    /**
+     * Asserts that there is an execution that finished and whose start meets the condition, and that the stamps of each of these lie so far
+     * apart.
+     *
+     * @param condition the condition; never {@code null}
+     * @param from the least difference
+     * @param to what each difference is below
+     * @return these assertions; never {@code null}
+     */
+    public RecordAssert takes(String condition, long from, long to) {
+        // (whether a condition holds of a start its descriptor says alone)
+        Set<String> keys = lines(1, "list", "started", given(condition, "condition")).stream().map(it -> it.split("[ |]")[3])
+                .collect(Collectors.toSet());
+        String[] question = {"explain", "executions"};
+        List<String> found = lines(0, question).stream().filter(it -> keys.contains(it.split(" ")[0]) && !it.split(" ")[1].equals("skipped"))
+                .collect(Collectors.toList());
+        List<String> others = found.stream().filter(it -> !isBetween(it.split(" "), from, to)).collect(Collectors.toList());
+        if (found.isEmpty() || !others.isEmpty()) {
+            throw refused(others.size() + " of " + found.size() + " executions of " + condition + " don't take " + from + " to below " + to + ": "
+                    + asked(question) + String.join("\n", others));
+        }
+        return this;
+    }
+
+    private static boolean isBetween(String[] execution, long from, long to) {
+        BigInteger length = new BigInteger(execution[3]).subtract(new BigInteger(execution[2]));
+        return length.compareTo(BigInteger.valueOf(from)) >= 0 && length.compareTo(BigInteger.valueOf(to)) < 0;
+    }
+
+    /**
+     * Asserts that the condition holds of so many events.
+     *
+     * @param count how many
+     * @param condition the condition; never {@code null}
+     * @return these assertions; never {@code null}
+     */
     public RecordAssert hasCount(long count, String condition) {
         List<String> found = list(given(condition, "condition"));
         if (found.size() == count) {
@@ -245,39 +422,53 @@ public final class RecordAssert {
             throw refused(said + asked(listing(condition)) + String.join("\n", found), count, (long) found.size());
         }
         // (a match of one more than there are tells of the events that came near)
-        String[] near = question(Collections.nCopies(found.size() + 1, condition).toArray(new String[0]), "explain", selection, "in-order");
-        throw refused(said + asked(near) + answer(1, found.size() + 1, near).output, count, (long) found.size());
+        String[] near = Collections.nCopies(found.size() + 1, within(condition)).toArray(new String[0]);
+        String[] question = joined(near, "explain", selection, "in-order");
+        throw refused(said + asked(question) + answer(1, near.length, question).output, count, (long) found.size());
     }
 
-    /** Returns a line for each event of which each condition holds: its position, its line in the record, its descriptor's id and name. */
+    /**
+     * Returns a line for each event of which each condition holds: its position, its line in the record, its descriptor's id and name.
+     *
+     * @param conditions the conditions; never {@code null}, nor is one of them
+     * @return the lines; never {@code null}
+     */
     public List<String> list(String... conditions) {
-        Ran ran = answer(0, conditions.length, listing(conditions));
-        return ran.output.isEmpty() ? Collections.emptyList() : Arrays.asList(ran.output.split("\n"));
+        return lines(allGiven(conditions, "conditions").length, listing(conditions));
     }
 
-    /** Prints {@link #list} on standard output. */
+    /** Prints {@link #list} on standard output, and returns these assertions; never {@code null}. */
     public RecordAssert debug() {
         list().forEach(System.out::println);
         return this;
     }
 
     private String[] listing(String... conditions) {
-        return joined(conditions, "explain", "list", selection);
+        String[] asked = within(conditions);
+        return joined(asked.length == 0 ? conditions() : asked, "explain", "list", selection);
+    }
+
+    /** Returns these conditions, each with those of {@link #below} and {@link #only}. */
+    private String[] within(String... conditions) {
+        return Arrays.stream(allGiven(conditions, "conditions")).map(this::within).toArray(String[]::new);
     }
 
     /** Returns the words of a question, which has to ask for something: without a condition the program may say yes. */
     private static String[] question(String[] asked, String... first) {
-        if (given(asked, "the array of words").length == 0) {
+        if (asked.length == 0) {
             throw new IllegalArgumentException(String.join(" ", first) + " needs at least one word more");
         }
         return joined(asked, first);
     }
 
     private static String[] joined(String[] asked, String... first) {
-        List<String> words = new ArrayList<>(Arrays.asList(first));
-        words.addAll(Arrays.asList(asked));
-        given(words.contains(null) ? null : words, "a word of " + words);
-        return words.toArray(new String[0]);
+        return Stream.of(first, asked).flatMap(Arrays::stream).toArray(String[]::new);
+    }
+
+    /** Returns the lines that the program answers to a question that ends with so many conditions. */
+    private List<String> lines(int conditions, String... question) {
+        Ran ran = answer(0, conditions, question);
+        return ran.output.isEmpty() ? Collections.emptyList() : Arrays.asList(ran.output.split("\n"));
     }
 
     /** Asks the program a question that ends with so many conditions, whose yes begins with {@code yes}. */
@@ -300,7 +491,7 @@ public final class RecordAssert {
     private Ran answer(int mostStatus, int conditions, String... question) {
         Ran ran;
         try {
-            ran = source.ask(record -> run(words("ask", question), record));
+            ran = source.ask(record -> run(joined(question, program(), "ask"), record));
         } catch (IOException | RuntimeException fault) {
             if (fault instanceof TestAbortedException) {
                 throw (TestAbortedException) fault;
@@ -308,7 +499,7 @@ public final class RecordAssert {
             throw new IllegalStateException(description + String.join(" ", question) + ": " + fault.getMessage(), fault);
         }
         if (ran.status == NOT_A_PROGRAM || ran.status == NO_PROGRAM) {
-            throw withoutProgram("Cannot run program \"" + words("ask").get(0) + "\": " + ran.errors);
+            throw withoutProgram("Cannot run program \"" + program() + "\": " + ran.errors);
         }
         Matcher cut = CUT_OFF.matcher(ran.errors);
         if (ran.status == 2 && cut.matches()) {
@@ -331,12 +522,6 @@ public final class RecordAssert {
         return description + command("ask", question) + " ends with status " + ran.status + ": " + ran.errors + ran.output;
     }
 
-    private List<String> words(String word, String... others) {
-        List<String> words = new ArrayList<>(Arrays.asList(program(), word));
-        words.addAll(Arrays.asList(others));
-        return words;
-    }
-
     /** Returns the program that is to be run. */
     private String program() {
         String named = System.getProperty(PROGRAM_PROPERTY);
@@ -353,7 +538,7 @@ public final class RecordAssert {
 
     /** Returns the command of a question, as a shell takes it, with a file that stays. */
     private String command(String word, String... others) {
-        String words = Stream.concat(Stream.of(word), Arrays.stream(others)).map(RecordAssert::quoted).collect(Collectors.joining(" "));
+        String words = Arrays.stream(joined(others, word)).map(RecordAssert::quoted).collect(Collectors.joining(" "));
         String named = System.getProperty(PROGRAM_PROPERTY, PROGRAM);
         return quoted(named) + " " + words + " < " + quoted(source.kept().toString());
     }
@@ -376,7 +561,7 @@ public final class RecordAssert {
     }
 
     /** Runs a program with the record as its input. */
-    private Ran run(List<String> words, Path record) throws IOException {
+    private Ran run(String[] words, Path record) throws IOException {
         for (String word : words) {
             // Java would hand over other letters.
             Charset[] charsets = {Charset.defaultCharset(), Charset.forName(System.getProperty("sun.jnu.encoding", "UTF-8"))};
@@ -436,129 +621,144 @@ public final class RecordAssert {
         private Conditions() {
         }
 
-        /** One of the segments of the descriptor's id has this tag and this value, both whole. */
+        /**
+         * Returns the condition that one of the segments of the descriptor's id has this tag and this value, both whole.
+         *
+         * @param tag the tag; never {@code null}
+         * @param value the value; never {@code null}
+         * @return the condition; never {@code null}
+         */
         public static String hasSegment(String tag, String value) {
             return atom("segment", given(tag, "tag"), given(value, "value"));
         }
 
-        /** The event is a finish with a message that contains this text. */
+        /** Returns the condition, never {@code null}, that the event is a finish with a message that contains {@code part}, never {@code null}. */
         public static String hasMessage(String part) {
             return atom("message", given(part, "part"));
         }
 
-        /** The event's descriptor is a test. */
+        /** Returns the condition, never {@code null}, that the event's descriptor is a test. */
         public static String isTest() {
             return "test";
         }
 
-        /** The event's descriptor is a container. */
+        /** Returns the condition, never {@code null}, that the event's descriptor is a container. */
         public static String isContainer() {
             return "container";
         }
 
-        /** The event's descriptor is the root of an engine. */
+        /** Returns the condition, never {@code null}, that the event's descriptor is the root of an engine. */
         public static String isEngine() {
             return "engine";
         }
 
-        /** The text of the descriptor's id contains this one. */
+        /** Returns the condition, never {@code null}, that the text of the descriptor's id contains {@code part}, never {@code null}. */
         public static String hasId(String part) {
             return atom("id", given(part, "part"));
         }
 
-        /** The descriptor's display name is this one. */
+        /** Returns the condition, never {@code null}, that the descriptor's display name is {@code name}, never {@code null}. */
         public static String hasName(String name) {
             return atom("name", given(name, "name"));
         }
 
-        /** The event is of this kind: dynamic, skip, start, finish, report or file. */
+        /**
+         * Returns the condition that the event is of a kind.
+         *
+         * @param kind dynamic, skip, start, finish, report or file; never {@code null}
+         * @return the condition; never {@code null}
+         */
         public static String hasKind(String kind) {
             return atom("kind", given(kind, "kind"));
         }
 
-        /** The event is a start. */
+        /** Returns the condition, never {@code null}, that the event is a start. */
         public static String hasStarted() {
             return "started";
         }
 
-        /** The event is a finish, successful. */
+        /** Returns the condition, never {@code null}, that the event is a finish, successful. */
         public static String hasSucceeded() {
             return "succeeded";
         }
 
-        /** The event is a finish, failed. */
+        /** Returns the condition, never {@code null}, that the event is a finish, failed. */
         public static String hasFailed() {
             return "failed";
         }
 
-        /** The event is a finish, failed with this message. */
+        /** Returns the condition, never {@code null}, that the event is a finish, failed with {@code message}, never {@code null}. */
         public static String hasFailed(String message) {
             return atom("failed", given(message, "message"));
         }
 
-        /** The event is a finish, aborted. */
+        /** Returns the condition, never {@code null}, that the event is a finish, aborted. */
         public static String wasAborted() {
             return "aborted";
         }
 
-        /** The event is a finish, aborted with this message. */
+        /** Returns the condition, never {@code null}, that the event is a finish, aborted with {@code message}, never {@code null}. */
         public static String wasAborted(String message) {
             return atom("aborted", given(message, "message"));
         }
 
-        /** The event is a skip with this reason. */
+        /** Returns the condition, never {@code null}, that the event is a skip with {@code reason}, never {@code null}. */
         public static String wasSkipped(String reason) {
             return atom("skipped", given(reason, "reason"));
         }
 
-        /** The event is a file with this path. */
+        /** Returns the condition, never {@code null}, that the event is a file with {@code path}, never {@code null}. */
         public static String hasFile(String path) {
             return atom("file", given(path, "path"));
         }
 
-        /** The event is a report entry of exactly these pairs, each a key and a value. */
+        /**
+         * Returns the condition that the event is a report entry of exactly these pairs.
+         *
+         * @param keysAndValues of each pair its key and its value; never {@code null}, nor is one of them
+         * @return the condition; never {@code null}
+         */
         public static String hasEntry(String... keysAndValues) {
-            if (given(keysAndValues, "keysAndValues").length % 2 == 1) {
+            if (allGiven(keysAndValues, "keysAndValues").length % 2 == 1) {
                 throw new IllegalArgumentException("the last key has no value: " + keysAndValues[keysAndValues.length - 1]);
             }
             return atom("entry", keysAndValues);
         }
 
-        /** The event is the entry that tells the class of what was thrown, before a finish, where {@code testkit.throwables} is set. */
+        /**
+         * Returns the condition that the event is the entry that tells the class of what was thrown, before a finish, where
+         * {@code testkit.throwables} is set.
+         *
+         * @param type the class; never {@code null}
+         * @return the condition; never {@code null}
+         */
         public static String hasThrown(Class<? extends Throwable> type) {
             return hasEntry("throwable", given(type, "type").getName());
         }
 
-        /** Each of these conditions holds. */
+        /** Returns the condition, never {@code null}, that each of {@code conditions} holds, none of which is {@code null}, nor are they. */
         public static String all(String... conditions) {
-            return joined("all", conditions);
+            return joined("all", allGiven(conditions, "conditions"));
         }
 
-        /** At least one of these conditions holds. */
+        /** Returns the condition, never {@code null}, that one of {@code conditions} holds, none of which is {@code null}, nor are they. */
         public static String any(String... conditions) {
-            return joined("any", conditions);
+            return joined("any", allGiven(conditions, "conditions"));
         }
 
-        /** This condition doesn't hold. */
+        /** Returns the condition, never {@code null}, that {@code condition}, never {@code null}, doesn't hold. */
         public static String not(String condition) {
-            return "not(" + given(condition, "condition") + ")";
+            return joined("not", given(condition, "condition"));
         }
 
-        private static String joined(String name, String... conditions) {
-            for (int i = 0; i < given(conditions, "conditions").length; i++) {
-                given(conditions[i], "conditions[" + i + "]");
-            }
-            return name + "(" + String.join(",", conditions) + ")";
+        private static String joined(String name, String... parts) {
+            return name + "(" + String.join(",", parts) + ")";
         }
 
         private static String atom(String name, String... texts) {
-            List<String> escaped = new ArrayList<>();
-            for (String text : texts) {
-                // (a record has U+FFFD too in place of an unpaired surrogate)
-                String paired = RecordText.paired(given(text, "an argument of " + name));
-                escaped.add(paired.replace("%", "%25").replace("(", "%28").replace(")", "%29").replace(",", "%2C"));
-            }
-            return name + "(" + String.join(",", escaped) + ")";
+            // (a record has U+FFFD too in place of an unpaired surrogate)
+            return joined(name, Arrays.stream(texts).map(it -> RecordText.paired(it).replace("%", "%25").replace("(", "%28").replace(")", "%29")
+                    .replace(",", "%2C")).toArray(String[]::new));
         }
     }
 }

@@ -2,10 +2,7 @@ package testkit;
 
 import static java.nio.charset.StandardCharsets.UTF_8;
 
-import java.io.IOException;
-import java.io.UncheckedIOException;
 import java.nio.file.Files;
-import java.nio.file.Path;
 import java.util.ArrayList;
 import java.util.Collections;
 import java.util.List;
@@ -54,6 +51,8 @@ public final class RecordKit {
     /**
      * Takes the engine with this id, which JUnit would find as a service.
      *
+     * @param id the id; never {@code null}
+     * @return a kit of it; never {@code null}
      * @throws IllegalArgumentException where there is none
      */
     public static RecordKit engine(String id) {
@@ -63,30 +62,46 @@ public final class RecordKit {
                 .orElseThrow(() -> new IllegalArgumentException("no service is an engine with the id " + id)));
     }
 
-    /** Takes this engine. */
+    /** Takes {@code engine}, never {@code null}; returns a kit of it, never {@code null}. */
     public static RecordKit engine(TestEngine engine) {
         return new RecordKit(RecordAssert.given(engine, "engine"));
     }
 
-    /** Adds selectors to the request. */
+    /**
+     * Adds selectors to the request.
+     *
+     * @param selectors the selectors; never {@code null}, nor is one of them
+     * @return this kit; never {@code null}
+     */
     public RecordKit selectors(DiscoverySelector... selectors) {
-        request.selectors(RecordAssert.given(selectors, "selectors"));
+        request.selectors(RecordAssert.allGiven(selectors, "selectors"));
         return this;
     }
 
-    /** Adds filters to the request, as the engine heeds them. */
+    /**
+     * Adds filters to the request, as the engine heeds them.
+     *
+     * @param filters the filters; never {@code null}, nor is one of them
+     * @return this kit; never {@code null}
+     */
     public RecordKit filters(DiscoveryFilter<?>... filters) {
-        request.filters(RecordAssert.given(filters, "filters"));
+        request.filters(RecordAssert.allGiven(filters, "filters"));
         return this;
     }
 
-    /** Adds a configuration parameter to the request. */
+    /**
+     * Adds a configuration parameter to the request.
+     *
+     * @param key the key; never {@code null}
+     * @param value the value; never {@code null}
+     * @return this kit; never {@code null}
+     */
     public RecordKit configurationParameter(String key, String value) {
         request.configurationParameter(RecordAssert.given(key, "key"), RecordAssert.given(value, "value"));
         return this;
     }
 
-    /** Discovers, and executes nothing. */
+    /** Discovers, and executes nothing; returns the tree, never {@code null}. */
     public RecordTree discover() {
         return RecordTree.of(engine, request);
     }
@@ -94,6 +109,7 @@ public final class RecordKit {
     /**
      * Discovers, executes, and begins assertions about the run. What the engine throws is thrown on.
      *
+     * @return the assertions; never {@code null}
      * @throws IllegalStateException where the discovery has a fault; a selector that isn't resolved is none here
      */
     public RecordAssert execute() {
@@ -102,24 +118,17 @@ public final class RecordKit {
         if (!tree.isUsable()) {
             throw new IllegalStateException(String.join("; ", tree.faults()));
         }
-        try {
-            Path path = Files.createTempFile("testkit-", ".record");
-            try {
-                Recorder recorder = new Recorder();
-                recorder.attempt(() -> recorder.begin(path.toString(), built.getConfigurationParameters()::get, tree.identifiers(), tree.locks()));
-                engine.execute(new ExecutionRequest(tree.root(), new Calls(recorder), built.getConfigurationParameters()));
-                recorder.attempt(recorder::end);
-                return new RecordAssert(new RecordSource(recorder.whole(Files.readAllLines(path)), recorder.unregistered), RecordAssert.ALL, "");
-            } finally {
-                Files.deleteIfExists(path);
-            }
-        } catch (IOException fault) {
-            throw new UncheckedIOException(fault);
-        }
+        return new RecordAssert(RecordSource.of(path -> {
+            Recorder recorder = new Recorder();
+            recorder.attempt(() -> recorder.begin(path.toString(), built.getConfigurationParameters()::get, tree.identifiers(), tree.locks()));
+            engine.execute(new ExecutionRequest(tree.root(), recorder, built.getConfigurationParameters()));
+            recorder.attempt(recorder::end);
+            return new RecordSource(recorder.whole(Files.readAllLines(path)), recorder.unregistered);
+        }));
     }
 
-    /** The listener that records the run, with a static descriptor for what nobody registered. */
-    private static final class Recorder extends RecordListener {
+    /** Records the run of an engine as a listener of a launcher does, with a static descriptor for what nobody registered. */
+    private static final class Recorder extends RecordListener implements EngineExecutionListener {
 
         private final List<String> unregistered = new ArrayList<>();
         private final List<String> late = new ArrayList<>();
@@ -138,47 +147,33 @@ public final class RecordKit {
         /** Returns a text of these lines, with the descriptors that nobody registered behind the others. */
         byte[] whole(List<String> lines) {
             List<String> all = new ArrayList<>(lines);
-            int statics = 1;
-            while (statics < all.size() && all.get(statics).startsWith("N|")) {
-                statics++;
-            }
-            all.addAll(statics, late);
+            all.addAll((int) lines.stream().filter(it -> it.startsWith("testkit-record|") || it.startsWith("N|")).count(), late);
             return (String.join("\n", all) + "\n").getBytes(UTF_8);
-        }
-    }
-
-    /** Hands an engine's calls to a listener of a launcher. */
-    private static final class Calls implements EngineExecutionListener {
-
-        private final RecordListener listener;
-
-        Calls(RecordListener listener) {
-            this.listener = listener;
         }
 
         @Override
         public void dynamicTestRegistered(TestDescriptor descriptor) {
-            listener.dynamicTestRegistered(TestIdentifier.from(descriptor));
+            dynamicTestRegistered(TestIdentifier.from(descriptor));
         }
 
         @Override
         public void executionSkipped(TestDescriptor descriptor, String reason) {
-            listener.executionSkipped(TestIdentifier.from(descriptor), reason);
+            executionSkipped(TestIdentifier.from(descriptor), reason);
         }
 
         @Override
         public void executionStarted(TestDescriptor descriptor) {
-            listener.executionStarted(TestIdentifier.from(descriptor));
+            executionStarted(TestIdentifier.from(descriptor));
         }
 
         @Override
         public void executionFinished(TestDescriptor descriptor, TestExecutionResult result) {
-            listener.executionFinished(TestIdentifier.from(descriptor), result);
+            executionFinished(TestIdentifier.from(descriptor), result);
         }
 
         @Override
         public void reportingEntryPublished(TestDescriptor descriptor, ReportEntry entry) {
-            listener.reportingEntryPublished(TestIdentifier.from(descriptor), entry);
+            reportingEntryPublished(TestIdentifier.from(descriptor), entry);
         }
     }
 }

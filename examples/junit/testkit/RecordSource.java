@@ -44,7 +44,7 @@ final class RecordSource {
     synchronized Path path() {
         try {
             if (path == null) {
-                path = written();
+                path = written(text);
                 TEMPORARY.add(path);
             }
             return path;
@@ -67,10 +67,21 @@ final class RecordSource {
 
     /** Asks about a file that has the record, and then goes where it is ours. */
     <T> T ask(Question<T> question) throws IOException {
-        if (text == null) {
-            return question.ask(path);
+        return text == null ? question.ask(path) : askOnce(text, question);
+    }
+
+    /** Returns the source of a record that is written into an empty file, which then goes. */
+    static RecordSource of(Question<RecordSource> writing) {
+        try {
+            return askOnce(new byte[0], writing);
+        } catch (IOException fault) {
+            throw new UncheckedIOException(fault);
         }
-        Path asked = written();
+    }
+
+    /** Asks about a file with this text, which then goes. */
+    private static <T> T askOnce(byte[] text, Question<T> question) throws IOException {
+        Path asked = written(text);
         try {
             return question.ask(asked);
         } finally {
@@ -78,7 +89,7 @@ final class RecordSource {
         }
     }
 
-    private Path written() throws IOException {
+    private static Path written(byte[] text) throws IOException {
         return Files.write(Files.createTempFile("testkit-", ".record"), text);
     }
 }

@@ -110,7 +110,11 @@ public final class RecordTree {
         return new HashMap<>(locks);
     }
 
-    /** Returns a line for each descriptor, parents first: its id, its name in quotes, its locks as a record has them. */
+    /**
+     * Returns a line for each descriptor, parents first: its id, its name in quotes, its locks as a record has them.
+     *
+     * @return the lines; never {@code null}
+     */
     public List<String> list() {
         return identifiers.values().stream().map(it -> it.getUniqueId() + " \"" + it.getDisplayName() + "\""
                 + locks.getOrDefault(it.getUniqueIdObject(), Collections.emptyList()).stream().map(lock -> " " + lock).collect(Collectors.joining()))
@@ -120,6 +124,8 @@ public final class RecordTree {
     /**
      * Returns what is wrong: an exception, a selector that failed or isn't resolved, a root of another engine, an id that stands twice, a child that
      * has another parent.
+     *
+     * @return the faults; never {@code null}
      */
     public List<String> faults() {
         return Collections.unmodifiableList(faults);

@@ -1,9 +1,6 @@
 package testkit;
 
-import java.io.IOException;
-import java.io.UncheckedIOException;
 import java.nio.file.Files;
-import java.nio.file.Path;
 import java.util.Map;
 import java.util.WeakHashMap;
 
@@ -28,10 +25,10 @@ public final class ResultsAssert {
      * Begins assertions about results, whose record is made at the first call.
      *
      * @param results the results; never {@code null}
+     * @return the assertions; never {@code null}
      */
     public static RecordAssert assertThat(EngineExecutionResults results) {
-        RecordAssert.given(results, "results");
-        return new RecordAssert(source(results), RecordAssert.ALL, "");
+        return new RecordAssert(source(RecordAssert.given(results, "results")));
     }
 
     /** Returns the record of results. It is made without our lock, since an engine's code runs then, and what is said is said. */
@@ -41,26 +38,15 @@ public final class ResultsAssert {
                 return RECORDED.get(results);
             }
         }
-        RecordSource made = record(results);
+        RecordSource made = RecordSource.of(path -> {
+            // (where it isn't whole, each question says so)
+            ResultsWriter.writeWhole(results, path.toString());
+            return new RecordSource(Files.readAllBytes(path), ResultsWriter.unregistered(results));
+        });
         synchronized (RECORDED) {
             // (another thread may have been first)
             RECORDED.putIfAbsent(results, made);
             return RECORDED.get(results);
-        }
-    }
-
-    private static RecordSource record(EngineExecutionResults results) {
-        try {
-            Path path = Files.createTempFile("testkit-", ".record");
-            try {
-                // (where it isn't whole, each question says so)
-                ResultsWriter.writeWhole(results, path.toString());
-                return new RecordSource(Files.readAllBytes(path), ResultsWriter.unregistered(results));
-            } finally {
-                Files.deleteIfExists(path);
-            }
-        } catch (IOException fault) {
-            throw new UncheckedIOException(fault);
         }
     }
 }

@@ -2,13 +2,13 @@ package testkit;
 
 import java.time.Instant;
 import java.time.temporal.ChronoUnit;
-import java.util.ArrayList;
 import java.util.HashSet;
 import java.util.LinkedHashMap;
 import java.util.List;
 import java.util.Map;
 import java.util.Optional;
 import java.util.Set;
+import java.util.stream.Collectors;
 
 import org.apiguardian.api.API;
 import org.junit.platform.engine.TestDescriptor;
@@ -78,9 +78,13 @@ public final class ResultsWriter {
      *
      * <p>The numbers in a path, and what ends a recording early, are as {@link RecordListener} has them; what a listener of this process
      * has recorded there stays. The system property {@link RecordListener#STAMPS_PARAMETER} says what the stamps are.
+     *
+     * @param results the results; never {@code null}
+     * @param path the path; never {@code null}
      */
     public static boolean write(EngineExecutionResults results, String path) {
         List<String> unregistered = unregistered(results);
+        RecordAssert.given(path, "path");
         unregistered.forEach(id -> RecordListener.say("nobody registered " + id + " before its first event"));
         return writeWhole(results, path) && unregistered.isEmpty();
     }
@@ -103,29 +107,23 @@ public final class ResultsWriter {
      *
      * <p>JUnit's launcher drops such events. What an engine adds to its tree while it runs, outside of what it registers, can't be told
      * from what it has discovered, and isn't named.
+     *
+     * @param results the results; never {@code null}
+     * @return the ids; never {@code null}
      */
     public static List<String> unregistered(EngineExecutionResults results) {
-        List<String> found = new ArrayList<>();
-        unregistered(results.allEvents().list()).keySet().forEach(id -> found.add(id.toString()));
-        return found;
+        List<Event> events = RecordAssert.given(results, "results").allEvents().list();
+        return unregistered(events).keySet().stream().map(UniqueId::toString).collect(Collectors.toList());
     }
 
     /** Returns what stands in the trees of the events' descriptors, and neither was registered nor is below what was, parents first. */
     private static Map<UniqueId, TestIdentifier> discovered(List<Event> events) {
-        Set<UniqueId> registered = new HashSet<>();
-        for (Event event : events) {
-            if (isRegistration(event)) {
-                registered.add(event.getTestDescriptor().getUniqueId());
-            }
-        }
+        Set<UniqueId> registered = events.stream().filter(ResultsWriter::isRegistration).map(it -> it.getTestDescriptor().getUniqueId())
+                .collect(Collectors.toSet());
         Map<UniqueId, TestIdentifier> identifiers = new LinkedHashMap<>();
-        for (Event event : events) {
-            TestDescriptor root = RecordLocks.root(event.getTestDescriptor());
-            // (a descriptor with a longer id that has no parent is in the tree of no engine)
-            if (root.getUniqueId().getSegments().size() == 1) {
-                collect(root, registered, identifiers);
-            }
-        }
+        // (a descriptor with a longer id that has no parent is in the tree of no engine)
+        events.stream().map(it -> RecordLocks.root(it.getTestDescriptor())).filter(it -> it.getUniqueId().getSegments().size() == 1)
+                .forEach(it -> collect(it, registered, identifiers));
         return identifiers;
     }
 

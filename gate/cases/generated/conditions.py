@@ -32,9 +32,7 @@ def brackets_of(asked: Condition) -> int:
     """How many brackets of `all(`, `any(` and `not(` stand within one another."""
     if asked[0] == "not":
         return 1 + brackets_of(asked[1])
-    if asked[0] in ("all", "any"):
-        return 1 + max((brackets_of(member) for member in asked[1]), default=0)
-    return 0
+    return 1 + max(map(brackets_of, asked[1]), default=0) if asked[0] in ("all", "any") else 0
 
 
 def condition_text(numbers: Numbers, brackets: int) -> str:

@@ -53,9 +53,7 @@ def replay_text(numbers: Numbers) -> bytes:
 
 def kind_of_outcome(case: Case) -> str:
     """Which fault it is, or how much was taken."""
-    if case.status == 0:
-        return "some" if b"\nE|" in case.output else "none"
-    return case.error.decode().split(" ", 3)[3].strip()
+    return case.error.decode().split(" ", 3)[3].strip() if case.status else "some" if b"\nE|" in case.output else "none"
 
 
 def cases() -> Cases:

@@ -24,9 +24,7 @@ Part = Callable[[Event, Descriptor], bool]
 
 def members(condition: Condition) -> List[Condition]:
     """The members of `all(..)` are those of its conditions; any other condition is its own member."""
-    if condition[0] != "all":
-        return [condition]
-    return [member for inner in condition[1] for member in members(inner)]
+    return [member for inner in condition[1] for member in members(inner)] if condition[0] == "all" else [condition]
 
 
 def meets(condition: Condition) -> Part:
@@ -109,9 +107,7 @@ def wrong_count(asked: Events, conditions: List[Condition]) -> str:
     if unlike:
         number = unlike[0]
         return counts + condition_row(conditions, number) + lacking_row(record, conditions[number], positions[number])
-    if len(positions) > both:
-        return counts + event_row(record, positions[both])
-    return counts + condition_row(conditions, both) + NONE_LEFT
+    return counts + (event_row(record, positions[both]) if len(positions) > both else condition_row(conditions, both) + NONE_LEFT)
 
 
 def explain_exactly(asked: Events, conditions: List[Condition]) -> Answer:

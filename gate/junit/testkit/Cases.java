@@ -118,7 +118,7 @@ class Cases {
         for (int i = 1; i < arguments.length; i++) {
             Room room = new Room(arguments[0], arguments[i]);
             // (the method has the name in one word; a limit is reached, or is passed, in one method)
-            String name = room.name.replaceFirst("^(most|too-many)-", "many-").replace("full-at-once", "full-disk");
+            String name = room.name.replaceFirst("^(most|too-many)-", "many-");
             StringBuilder method = new StringBuilder();
             for (String word : name.split("-")) {
                 method.append(method.length() == 0 ? word : word.substring(0, 1).toUpperCase() + word.substring(1));

@@ -8,6 +8,7 @@ import static testkit.Cases.settings;
 import java.nio.file.Files;
 import java.nio.file.Paths;
 import java.util.ArrayList;
+import java.util.Collections;
 import java.util.List;
 
 import org.junit.platform.engine.TestDescriptor.Type;
@@ -90,7 +91,7 @@ public class LimitCases {
         }, Calls::play);
     }
 
-    /** Texts as long as may be and longer; of the longer one a character stands across the end. */
+    /** Texts as long as may be and longer; of the longer one a character stands across the end. Last the least letters of 2, 3 and 4 bytes. */
     private static void longTexts(Room room) {
         String most = letters(MAX_FIELD_BYTES);
         String more = letters(MAX_FIELD_BYTES - 1) + "日";
@@ -106,6 +107,10 @@ public class LimitCases {
                 calls.fail(root.child(0), new IllegalStateException(letters(MIB)));
             }
             calls.abort(root, new IllegalStateException(more));
+            for (int bytes = 2; bytes <= 4; bytes++) {
+                String letter = new String(Character.toChars(bytes == 2 ? 0x80 : bytes == 3 ? 0x800 : 0x1_0000));
+                calls.skip(root.child(0), String.join("", Collections.nCopies(MAX_FIELD_BYTES / bytes + 1, letter)));
+            }
         });
     }
 
@@ -119,6 +124,12 @@ public class LimitCases {
             root.add("t", "256", letters(2_000), Type.TEST);
             root.add("t", "257", "three", Type.TEST);
         }, Cases::playOneTest);
+    }
+
+    /** Two runs at one path, at which there is no place for a header. */
+    private static void fullAtOnce(Room room) {
+        record(room, Cases::oneTest, Cases::playOneTest);
+        record(room, Cases::oneTest, Cases::playOneTest);
     }
 
     /** A text for which there is no place: the process may write only short files. */

@@ -29,24 +29,29 @@ import java.io.ByteArrayOutputStream;
 import java.io.IOException;
 import java.io.PrintStream;
 import java.io.UncheckedIOException;
+import java.lang.reflect.Array;
+import java.lang.reflect.InvocationTargetException;
 import java.lang.reflect.Method;
+import java.lang.reflect.Modifier;
 import java.nio.charset.Charset;
 import java.nio.file.Files;
 import java.nio.file.Path;
 import java.nio.file.Paths;
 import java.nio.file.attribute.PosixFilePermissions;
+import java.util.ArrayList;
 import java.util.Arrays;
 import java.util.Collections;
+import java.util.HashMap;
 import java.util.LinkedHashMap;
 import java.util.List;
 import java.util.Map;
 import java.util.function.Function;
 import java.util.function.UnaryOperator;
+import java.util.stream.Collectors;
 
 import org.junit.jupiter.api.AfterEach;
 import org.junit.jupiter.api.BeforeEach;
 import org.junit.jupiter.api.Test;
-import org.junit.jupiter.api.function.Executable;
 import org.junit.jupiter.api.io.TempDir;
 import org.junit.platform.engine.ExecutionRequest;
 import org.junit.platform.engine.TestDescriptor.Type;
@@ -72,6 +77,13 @@ class RecordAssertTests {
             + "E|1|1|0|start\nE|1|1|0|finish|ok\nE|2|2|0|start\nE|2|2|0|finish|ok\n";
     private static final String BROKEN = "testkit-record|2\nN|T|[engine:e]|e\nE|1|0|0|start\n";
     private static final String FORGOTTEN = "testkit-record|2\nN|C|[engine:e]|e\nN|T|[engine:e]/[t:1]|one\nE|1|0|0|start\nE|1|0|0|finish|ok\n";
+    /** An engine within another one, beside one of the same id, and one within itself. */
+    private static final String NESTED = "testkit-record|2\nN|C|[engine:s]|s\nN|C|[engine:s]/[engine:e]|inner\nN|T|[engine:s]/[engine:e]/[t:1]|one\n"
+            + "N|C|[engine:e]|e\nN|T|[engine:e]/[t:1]|one\nN|T|[engine:e]/[t:10]|ten\nN|C|[engine:\\p]|f\nN|C|[engine:\\p]/[engine:\\p]|f in f\n"
+            + "E|1|0|0|start\nE|1|1|0|start\nE|1|2|0|start\nE|1|3|0|start\nE|1|4|0|start\nE|1|5|0|skip|off\nE|1|6|0|start\nE|1|7|0|start\n";
+    /** Tests that take 20 and 1, a skip, and a container that never finishes. */
+    private static final String TIMES = "testkit-record|2\nN|C|[engine:e]|e\nN|T|[engine:e]/[t:1]|one\nN|T|[engine:e]/[t:2]|two\n"
+            + "N|T|[engine:e]/[t:3]|off\nE|1|0|5|start\nE|1|1|10|start\nE|1|1|30|finish|ok\nE|2|2|20|start\nE|1|3|40|skip|x\nE|2|2|21|finish|ok\n";
     private static final String STATISTICS = "skipped 0";
     private static final String PACKED = "testkit-x86_64-linux";
 
@@ -124,6 +136,8 @@ class RecordAssertTests {
         found.put("ask explain exclusive g", it -> it.exclusive("g"));
         found.put("ask explain exclusive h i", it -> it.containers().exclusive("h", "i"));
         found.put("ask explain locks", it -> it.tests().keepsLocks());
+        found.put("ask explain tests loosely all(k,l)", it -> it.only("j").tests().only("k").matchesLoosely("l"));
+        found.put("ask explain all in-order all(m,n) all(m,o)", it -> it.only("m").describedAs("run 1").matchesInOrder("n", "o"));
         return found;
     }
 
@@ -141,8 +155,10 @@ class RecordAssertTests {
     void eachMethodRefusesANoWithItsExplanation() throws IOException {
         program("echo no 4", "echo why", "exit 1");
         for (Map.Entry<String, Function<RecordAssert, RecordAssert>> method : methods().entrySet()) {
-            Error fault = assertThrows(AssertionFailedError.class, () -> method.getValue().apply(RecordAssert.assertThat(record).describedAs("run 1")));
-            assertEquals("[run 1] " + folder.resolve("program") + " " + method.getKey() + " < " + record + "\nno 4\nwhy\n", fault.getMessage());
+            RecordAssert asserting = RecordAssert.assertThat(record).describedAs("run 1");
+            Error fault = assertThrows(AssertionFailedError.class, () -> method.getValue().apply(asserting));
+            String said = "[run 1] " + folder.resolve("program") + " " + method.getKey() + " < " + record + "\nno 4\nwhy\n";
+            assertEquals(said, fault.getMessage().replace("'", ""));
         }
     }
 
@@ -152,8 +168,9 @@ class RecordAssertTests {
         RecordAssert asserting = RecordAssert.assertThat(record).tests().hasCount(2, "x");
         assertEquals("ask explain list tests x", String.join(" ", words("program")));
         String[] asked = {"list tests x", "tests in-order x x x"};
+        AssertionFailedError fault;
         for (int count : new int[] {1, 3}) {
-            AssertionFailedError fault = assertThrows(AssertionFailedError.class, () -> asserting.hasCount(count, "x"));
+            fault = assertThrows(AssertionFailedError.class, () -> asserting.hasCount(count, "x"));
             String command = folder.resolve("program") + " ask explain " + asked[count / 2] + " < " + record;
             assertEquals(count + " events wanted, 2 found: " + command + "\n0 a\n3 b", fault.getMessage().trim());
             assertEquals(count + " 2", fault.getExpected().getValue() + " " + fault.getActual().getValue());
@@ -166,6 +183,9 @@ class RecordAssertTests {
         AssertionFailedError statistics = assertThrows(AssertionFailedError.class, () -> asserting.hasStatistics("skipped=1", "failed=2"));
         assertEquals("skipped=1, failed=2", statistics.getExpected().getValue());
         assertEquals("skipped=0, failed=7", statistics.getActual().getValue());
+        program("seq 21");
+        fault = assertThrows(AssertionFailedError.class, () -> asserting.hasCount(22, "x"));
+        assertTrue(fault.getMessage().contains(" ask explain list tests x < "), fault.getMessage());
         program("true");
         assertEquals(Collections.emptyList(), asserting.hasCount(0, "x").list("x", "y"));
         program("echo 0 a", "exit 1");
@@ -214,11 +234,11 @@ class RecordAssertTests {
     void theCommandCanBePasted() throws Exception {
         program("echo no 4", "exit 1");
         Path odd = Files.copy(record, folder.resolve("it's a record"));
-        String condition = "all(name(it's \"a\" $b),any())";
-        Error fault = assertThrows(AssertionFailedError.class, () -> RecordAssert.assertThat(odd).matchesLoosely("test", condition));
+        String[] conditions = {"test", "all(name(it's \"a\" $b),any())", "$HOME", "~", "*", "#", ""};
+        Error fault = assertThrows(AssertionFailedError.class, () -> RecordAssert.assertThat(odd).matchesLoosely(conditions));
         Files.delete(folder.resolve("program.words"));
         assertEquals(1, new ProcessBuilder("sh", "-c", fault.getMessage().split("\n")[0]).redirectErrorStream(true).start().waitFor());
-        assertEquals(Arrays.asList("ask", "explain", "all", "loosely", "test", condition), words("program"));
+        assertEquals("ask explain all loosely " + String.join(" ", conditions), String.join(" ", words("program")));
         assertEquals(TWO_TESTS, text(folder.resolve("program.input")));
     }
 
@@ -287,6 +307,7 @@ class RecordAssertTests {
         Path program = RecordProgram.path();
         assertEquals(program, RecordProgram.path());
         assertEquals("rwx------", PosixFilePermissions.toString(Files.getPosixFilePermissions(program.getParent())));
+        assertTrue(PosixFilePermissions.toString(Files.getPosixFilePermissions(program)).matches("rwx..-..-"));
         Files.delete(program);
         RecordAssert.assertThat(record).keepsLifecycle();
     }
@@ -322,17 +343,48 @@ class RecordAssertTests {
         assertThrows(IllegalArgumentException.class, asserting::matchesExactly);
         assertThrows(IllegalArgumentException.class, asserting::matchesLoosely);
         assertThrows(IllegalArgumentException.class, asserting::matchesInOrder);
-        assertThrows(IllegalArgumentException.class, () -> asserting.matchesLoosely("test", null));
-        assertThrows(IllegalArgumentException.class, () -> asserting.exclusive(null));
-        assertThrows(IllegalArgumentException.class, () -> asserting.exclusive("test", null));
+        assertThrows(IllegalArgumentException.class, () -> asserting.only("started").matchesInOrder());
         assertThrows(IllegalArgumentException.class, () -> asserting.on("failed(x)"));
-        Executable[] nulls = {() -> RecordAssert.assertThat(null), () -> asserting.describedAs(null), () -> asserting.on(null),
-            () -> asserting.exclusive(null), () -> hasName(null), () -> hasSegment("t", null), () -> ResultsAssert.assertThat(null)};
-        String[] names = {"record", "text", "events", "writers", "name", "value", "results"};
-        for (int i = 0; i < nulls.length; i++) {
-            assertEquals(names[i] + " is null", assertThrows(IllegalArgumentException.class, nulls[i]).getMessage());
+        for (String id : new String[] {"", "engine:e", "[engine:e]/", "[engine:e]/[t:]", "[engine:e][t:1]", "[engine:e]/[t:1/2]"}) {
+            assertThrows(IllegalArgumentException.class, () -> asserting.below(id));
         }
         assertFalse(Files.exists(folder.resolve("program.words")));
+    }
+
+    /** Each public method that takes a reference refuses a null in its place, or in its array, and names the parameter. */
+    @Test
+    void noArgumentMayBeNull() throws Exception {
+        List<String> wanted = new ArrayList<>();
+        List<String> said = new ArrayList<>();
+        Class<?>[] types = {RecordAssert.class, RecordAssert.Conditions.class, RecordKit.class, RecordTree.class, ResultsAssert.class,
+            ResultsWriter.class};
+        for (Class<?> type : types) {
+            for (Method method : type.getDeclaredMethods()) {
+                for (int i = 0; i < (Modifier.isPublic(method.getModifiers()) ? method.getParameterCount() : 0); i++) {
+                    Class<?> of = method.getParameterTypes()[i];
+                    for (int items = 0; items < (of.isPrimitive() ? 0 : of.isArray() ? 2 : 1); items++) {
+                        String name = method.getParameters()[i].getName() + (items == 0 ? "" : "[0]");
+                        wanted.add(method.getName() + ": " + name + " must not be null");
+                        said.add(method.getName() + ": " + refusal(method, i, items == 0 ? null : Array.newInstance(of.getComponentType(), 1)));
+                    }
+                }
+            }
+        }
+        assertEquals(wanted, said);
+        assertTrue(wanted.size() > 40, wanted.toString());
+    }
+
+    /** Calls a method with this argument, and others that are right, and returns the message of its refusal. */
+    private String refusal(Method method, int place, Object argument) {
+        Map<Class<?>, Object> right = new HashMap<>();
+        right.put(String.class, "started");
+        right.put(long.class, 1L);
+        right.put(EngineExecutionResults.class, results((calls, root) -> calls.skip(root, "off")));
+        Object[] arguments = Arrays.stream(method.getParameterTypes()).map(right::get).toArray();
+        arguments[place] = argument;
+        Object callee = method.getDeclaringClass() == RecordKit.class ? RecordKit.engine("junit-jupiter") : RecordAssert.assertThat(record);
+        Throwable fault = assertThrows(InvocationTargetException.class, () -> method.invoke(callee, arguments), method.toString()).getCause();
+        return fault instanceof IllegalArgumentException ? fault.getMessage() : fault.toString();
     }
 
     @Test
@@ -488,6 +540,74 @@ class RecordAssertTests {
         assertThrows(IllegalArgumentException.class, () -> RecordAssert.assertThat(none).keepsLifecycle());
     }
 
+    /** Asks the program itself about events of which a condition holds. */
+    @Test
+    void theProgramAnswersAboutSomeEvents() throws IOException {
+        useTheProgram();
+        RecordAssert tests = RecordAssert.assertThat(record).only(isTest()).hasStatistics("started=2", "failed=1", "finished=2", "skipped=0")
+                .matchesExactly(hasStarted(), hasStarted(), hasFailed("boom"), hasSucceeded()).matchesInOrder(hasFailed(), hasSucceeded())
+                .matchesLoosely(hasSucceeded()).hasCount(2, hasStarted());
+        assertEquals(Arrays.asList("3 E|1|1|0|finish|fail|boom   [engine:e]/[t:1] \"one\""), tests.on("failed").list());
+        assertEquals(Collections.emptyList(), tests.on("failed").only(hasName("two")).list());
+        assertEquals(1, tests.only(hasName("e")).list(hasStarted()).size());
+        tests.containers().hasStatistics("started=0").hasCount(0, all());
+        AssertionFailedError fault = assertThrows(AssertionFailedError.class, () -> tests.hasStatistics("started=2", "finished=3"));
+        assertEquals("started=2, finished=3 started=2, finished=2", fault.getExpected().getValue() + " " + fault.getActual().getValue());
+        assertThrows(IllegalArgumentException.class, () -> tests.hasStatistics("started=02"));
+        assertThrows(AssertionFailedError.class, () -> tests.matchesExactly(hasStarted(), hasFailed(), hasSucceeded()));
+        assertThrows(AssertionFailedError.class, () -> tests.matchesExactly(hasStarted(), hasFailed(), hasSucceeded(), hasSucceeded()));
+        assertRefused("no 0\n0 all(test,container)", () -> tests.matchesLoosely(isContainer()));
+        assertRefused("no 0\n0 all(test,container)", () -> tests.matchesInOrder(isContainer()));
+    }
+
+    /** An id with all below it: not one that only begins so, and none within another id. */
+    @Test
+    void theProgramKnowsWhatIsBelowAnId() throws IOException {
+        useTheProgram();
+        RecordAssert nested = RecordAssert.assertThat(Files.write(folder.resolve("nested.record"), NESTED.getBytes(UTF_8)));
+        String[][] cases = {{"[engine:e]", "3 4 5"}, {"[engine:e]/[t:1]", "4"}, {"[engine:s]/[engine:e]", "1 2"},
+            {"[engine:|]/[engine:|]", "7"}};
+        for (String[] it : cases) {
+            assertEquals(it[1], nested.below(it[0]).list().stream().map(line -> line.split(" ")[0]).collect(Collectors.joining(" ")), it[0]);
+        }
+        assertEquals(1, nested.below("[engine:s]").only(isTest()).below("[engine:e]").hasCount(2, isTest()).on("skipped").list().size());
+        AssertionError none = assertThrows(AssertionFailedError.class, () -> nested.below("[engine:e]/[t:2]"));
+        assertTrue(none.getMessage().startsWith("no event is of [engine:e]/[t:2], or of an id below it: "), none.getMessage());
+        RuntimeException fault = assertThrows(IllegalStateException.class, () -> nested.below("[engine:|]"));
+        assertTrue(fault.getMessage().startsWith("[engine:|] stands twice in an id: 7 E|"), fault.getMessage());
+    }
+
+    /** Two executions that overlap, of which one meets the first condition; where none does, or there are no two, the assertion fails. */
+    @Test
+    void theProgramKnowsWhatOverlaps() throws IOException {
+        useTheProgram();
+        RecordAssert asserting = RecordAssert.assertThat(record).overlap(hasName("one"), hasName("two")).overlap(isContainer(), hasName("two"))
+                .overlap(isTest(), "any()");
+        assertRefused("no pair\n0 name(one)", () -> asserting.overlap(hasName("one"), hasName("one")));
+        assertRefused("no pair\n0 name(three)", () -> asserting.overlap(hasName("three"), isTest()));
+        RecordAssert apart = RecordAssert.assertThat(Files.write(folder.resolve("apart.record"), APART.getBytes(UTF_8)));
+        AssertionError fault = assertThrows(AssertionFailedError.class, () -> apart.describedAs("run 1").overlap(isTest(), isTest()));
+        assertTrue(fault.getMessage().startsWith("[run 1] nothing overlaps: ") && fault.getMessage().endsWith("\nyes\n"), fault.getMessage());
+        for (String line : new String[] {"echo no", "echo no 1 2", "exit 1", "echo yes; exit 1", "echo no pair"}) {
+            program(line);
+            assertThrows(IllegalStateException.class, () -> asserting.overlap("a", "b"), line);
+        }
+    }
+
+    @Test
+    void theProgramKnowsWhatExecutionsTake() throws IOException {
+        useTheProgram();
+        RecordAssert asserting = RecordAssert.assertThat(Files.write(folder.resolve("times.record"), TIMES.getBytes(UTF_8)))
+                .takes(isTest(), 1, 21).takes(hasName("one"), 20, 21).takes(all(), 0, 99);
+        assertRefusedAtOnce("1 of 2 executions of test don't take 2 to below 21", () -> asserting.takes(isTest(), 2, 21));
+        assertRefusedAtOnce("1 of 2 executions of test don't take 1 to below 20", () -> asserting.takes(isTest(), 1, 20));
+        assertRefusedAtOnce("0 of 0 executions of name(off) don't take 0 to below 9", () -> asserting.takes(hasName("off"), 0, 9));
+        assertRefusedAtOnce("0 of 0 executions of engine don't take 0 to below 9", () -> asserting.takes(isEngine(), 0, 9));
+        Path most = Files.write(folder.resolve("most.record"), TIMES.replace("|30|", "|18446744073709551615|").getBytes(UTF_8));
+        assertRefusedAtOnce("1 of 1 executions of name(one) don't take 0 to below 9223372036854775807",
+                () -> RecordAssert.assertThat(most).takes(hasName("one"), 0, Long.MAX_VALUE));
+    }
+
     /** Asks the program itself about two locks that are held one after the other, about two that are held at once, and about none. */
     @Test
     void theProgramJudgesLocks() throws IOException {
@@ -517,5 +637,10 @@ class RecordAssertTests {
     private static void assertRefused(String answer, Runnable asserting) {
         AssertionError fault = assertThrows(AssertionError.class, asserting::run);
         assertTrue(fault.getMessage().contains("\n" + answer + "\n"), fault.getMessage());
+    }
+
+    private static void assertRefusedAtOnce(String begin, Runnable asserting) {
+        AssertionError fault = assertThrows(AssertionFailedError.class, asserting::run);
+        assertTrue(fault.getMessage().startsWith(begin + ":"), fault.getMessage());
     }
 }

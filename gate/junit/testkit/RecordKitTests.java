@@ -6,6 +6,7 @@ import static org.junit.jupiter.api.Assertions.assertThrows;
 import static org.junit.jupiter.api.Assertions.assertTrue;
 import static org.junit.platform.engine.discovery.DiscoverySelectors.selectClass;
 import static org.junit.platform.engine.discovery.DiscoverySelectors.selectMethod;
+import static org.junit.platform.engine.discovery.DiscoverySelectors.selectUri;
 
 import java.io.IOException;
 import java.nio.file.Files;
@@ -36,6 +37,7 @@ class RecordKitTests {
     @AfterEach
     void clearProperty() {
         System.clearProperty("testkit.program");
+        System.clearProperty("testkit.threads");
     }
 
     private static RecordKit kit(Tree tree, Script script) {
@@ -53,10 +55,17 @@ class RecordKitTests {
         Files.write(program, "#!/bin/sh\necho yes\n".getBytes(UTF_8));
         assertTrue(program.toFile().setExecutable(true));
         System.setProperty("testkit.program", program.toString());
+        System.setProperty("testkit.threads", "true");
         RecordAssert asserting = kit(root -> {
             root.add("t", "1", "one", Type.TEST);
             LockCases.Locking.below(root, "2").lock("db", LockMode.READ_WRITE);
             root.add("c", "empty", "no test", Type.CONTAINER);
+            root.addChild(new Node(root.getUniqueId().append("c", "pruned"), "left out", Type.CONTAINER) {
+                @Override
+                public boolean mayRegisterTests() {
+                    return false;
+                }
+            });
         }, (calls, root) -> {
             calls.start(root);
             calls.onThread(() -> calls.play(root.child(0)));
@@ -74,10 +83,12 @@ class RecordKitTests {
         assertEquals(asserting, asserting.keepsLocks());
     }
 
-    /** An engine that JUnit finds as a service, its selectors and its parameters. */
+    /** An engine that JUnit finds as a service, a selector, and one that nobody resolves. */
     @Test
     void jupiterRuns() throws IOException {
-        List<String> lines = lines(RecordKit.engine("junit-jupiter").selectors(selectMethod(LockTests.class, "writes")).execute());
+        RecordKit kit = RecordKit.engine("junit-jupiter").selectors(selectMethod(LockTests.class, "writes"), selectUri("none:here"));
+        assertEquals(Collections.singletonList("UriSelector [uri = none:here] isn't resolved"), kit.discover().faults());
+        List<String> lines = lines(kit.execute());
         assertTrue(lines.contains("L|2|W|db"), lines.toString());
         assertEquals("Z|6", lines.get(lines.size() - 1));
     }

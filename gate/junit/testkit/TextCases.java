@@ -194,7 +194,7 @@ public class TextCases {
         });
     }
 
-    /** What was thrown, with and without a cause and frames; and a throwable that doesn't tell. */
+    /** What was thrown, with and without a cause and frames; a throwable that doesn't tell; and a run of which nobody wants to know it. */
     private static void thrown(Room room) {
         Throwable bare = new IllegalStateException("bare");
         bare.setStackTrace(new StackTraceElement[0]);
@@ -222,6 +222,9 @@ public class TextCases {
             calls.succeed(root);
         }));
         room.fact("whole", listener.isWhole());
-        launch(new RecordListener(room.path() + ".2"), root -> root.add("t", "1", "one", Type.TEST), (calls, root) -> calls.fail(root, caused));
+        launch(listener, root -> root.add("t", "1", "one", Type.TEST), (calls, root) -> {
+            calls.start(root);
+            calls.fail(root, caused);
+        });
     }
 }

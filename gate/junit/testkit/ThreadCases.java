@@ -10,8 +10,13 @@ import static testkit.Cases.record;
 import static testkit.Cases.settings;
 
 import java.io.File;
+import java.io.IOException;
 import java.io.OutputStream;
 import java.io.PrintStream;
+import java.nio.file.Files;
+import java.nio.file.Path;
+import java.nio.file.Paths;
+import java.security.Security;
 import java.util.Arrays;
 import java.util.concurrent.CountDownLatch;
 import java.util.concurrent.CyclicBarrier;
@@ -20,6 +25,7 @@ import java.util.logging.Handler;
 import java.util.logging.Logger;
 
 import org.junit.platform.engine.TestDescriptor.Type;
+import org.junit.platform.launcher.TestIdentifier;
 import testkit.Cases.Handling;
 import testkit.Cases.Room;
 import testkit.Cases.Unreadable;
@@ -167,6 +173,18 @@ public class ThreadCases {
         });
     }
 
+    /** A thread that runs nothing keeps its worker, though one before it is free. */
+    private static void idleThread(Room room) {
+        record(room, Cases::oneTest, (calls, root) -> {
+            calls.start(root);
+            calls.onThread(() -> {
+                calls.play(calls.register(root, "1", "first", Type.TEST));
+                calls.onThread(() -> calls.succeed(root));
+                calls.play(calls.register(root, "2", "second", Type.TEST));
+            });
+        });
+    }
+
     /** Starts descriptors from {@code number} to {@code last}, each in a thread of its own that waits for the later ones. */
     private static void atOnce(Calls calls, Node root, int number, int last) throws InterruptedException {
         if (number > last) {
@@ -289,6 +307,19 @@ public class ThreadCases {
         });
     }
 
+    /** The clock that the first run of a process reads and leaves; another one is put in its place, by which it is 1970. */
+    private static void clockOfTheProcess(Room room) throws IOException {
+        record(room, Cases::oneTest, (calls, root) -> calls.skip(root, "by the clock"));
+        String left = Security.getProperty("testkit.clock");
+        room.fact("is-read", left != null);
+        Security.setProperty("testkit.clock", "" + -System.nanoTime() / 1_000);
+        Path path = Paths.get(room.path() + ".1970");
+        launch(new RecordListener(path.toString()), Cases::oneTest, (calls, root) -> calls.skip(root, "at the beginning"));
+        room.fact("is-followed", Files.readAllLines(path).get(3).matches("E[|]1[|]0[|][0-9]{1,9}[|]skip[|].*"));
+        Files.delete(path);
+        Security.setProperty("testkit.clock", left);
+    }
+
     private static void fallingClock(Room room) {
         RecordListener listener = new FallingClock(room.path());
         launch(listener, Cases::oneTest, (calls, root) -> {
@@ -330,6 +361,20 @@ public class ThreadCases {
             calls.play(calls.register(root, "1", "meanwhile", Type.TEST));
             calls.succeed(root);
         });
+    }
+
+    /** A recording that ends while a message is asked for: what waits is written. */
+    private static void stoppedMessage(Room room) {
+        RecordListener listener = new RecordListener(room.path());
+        launch(listener, Cases::oneTest, (calls, root) -> {
+            calls.start(root);
+            calls.fail(root.child(0), new Acting(() -> calls.onThread(() -> {
+                calls.report(root, "k", "meanwhile");
+                listener.executionStarted(TestIdentifier.from(root.add("t", "2", "two", Type.TEST)));
+            })));
+            calls.succeed(root);
+        });
+        room.fact("whole", listener.isWhole());
     }
 
     /** Entries that come while a message hangs: no more wait than a record can have. */
