@@ -570,7 +570,8 @@ class RecordAssertTests {
         for (String[] it : cases) {
             assertEquals(it[1], nested.below(it[0]).list().stream().map(line -> line.split(" ")[0]).collect(Collectors.joining(" ")), it[0]);
         }
-        assertEquals(1, nested.below("[engine:s]").only(isTest()).below("[engine:e]").hasCount(2, isTest()).on("skipped").list().size());
+        assertEquals(1, nested.below("[engine:s]").only(isTest()).below("[engine:e]").hasCount(2, all()).on("skipped").list().size());
+        nested.below("[engine:e]").only(isTest()).hasCount(2, all());
         AssertionError none = assertThrows(AssertionFailedError.class, () -> nested.below("[engine:e]/[t:2]"));
         assertTrue(none.getMessage().startsWith("no event is of [engine:e]/[t:2], or of an id below it: "), none.getMessage());
         RuntimeException fault = assertThrows(IllegalStateException.class, () -> nested.below("[engine:|]"));
