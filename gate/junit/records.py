@@ -67,7 +67,7 @@ def locks_by_id(lines: Sequence[str]) -> Dict[str, List[str]]:
     assert list(lines[1 : 1 + len(statics) + len(locks)]) == statics + locks, "a lock stands elsewhere"
     parts = [LOCK.fullmatch(line) for line in locks]
     order = [(int(it[1]), it[2][2:].encode()) for it in parts]
-    assert order == sorted(set(order)), f"the locks have another order: {order}"
+    assert order == sorted(order), f"the locks have another order: {order}"
     found: Dict[str, List[str]] = defaultdict(list)
     for it in parts:
         found[statics[int(it[1])].split("|")[2]].append(it[2])
