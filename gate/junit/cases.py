@@ -109,7 +109,7 @@ def long_texts() -> List[str]:
     skip, end = f"E|1|1|0|skip|{cut}", f"E|1|0|0|finish|abort|{cut}"
     letters = [(letter, 65_536 // size, size) for size, letter in ((2, "\x80"), (3, "\u0800"), (4, "\U00010000"))]
     least = [f"E|1|1|0|skip|{letter * most} .. ({(most + 1) * size} bytes)" for letter, most, size in letters]
-    return [f"N|T|[engine:e]/[t:2]|{cut}", "E|1|0|0|start", *reports, skip, *failures, end, *least]
+    return [f"N|T|[engine:e]/[t:2]|{cut}", "E|1|0|0|start", *reports, skip, *failures, *least, end]
 
 
 def huge_texts() -> List[str]:

@@ -91,7 +91,7 @@ public class LimitCases {
         }, Calls::play);
     }
 
-    /** Texts as long as may be and longer; of the longer one a character stands across the end. Last the least letters of 2, 3 and 4 bytes. */
+    /** Texts as long as may be and longer; of the longer one a character stands across the end. Three are of the least letter of 2, 3 or 4 bytes. */
     private static void longTexts(Room room) {
         String most = letters(MAX_FIELD_BYTES);
         String more = letters(MAX_FIELD_BYTES - 1) + "日";
@@ -106,11 +106,11 @@ public class LimitCases {
             for (int i = 0; i < 20; i++) {
                 calls.fail(root.child(0), new IllegalStateException(letters(MIB)));
             }
-            calls.abort(root, new IllegalStateException(more));
             for (int bytes = 2; bytes <= 4; bytes++) {
                 String letter = new String(Character.toChars(bytes == 2 ? 0x80 : bytes == 3 ? 0x800 : 0x1_0000));
                 calls.skip(root.child(0), String.join("", Collections.nCopies(MAX_FIELD_BYTES / bytes + 1, letter)));
             }
+            calls.abort(root, new IllegalStateException(more));
         });
     }
 

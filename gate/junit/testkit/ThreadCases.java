@@ -177,11 +177,13 @@ public class ThreadCases {
     private static void idleThread(Room room) {
         record(room, Cases::oneTest, (calls, root) -> {
             calls.start(root);
+            calls.onThread(() -> calls.start(root.child(0)));
             calls.onThread(() -> {
                 calls.play(calls.register(root, "1", "first", Type.TEST));
-                calls.onThread(() -> calls.succeed(root));
+                calls.succeed(root.child(0));
                 calls.play(calls.register(root, "2", "second", Type.TEST));
             });
+            calls.succeed(root);
         });
     }
 
