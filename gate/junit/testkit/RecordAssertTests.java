@@ -81,9 +81,10 @@ class RecordAssertTests {
     private static final String NESTED = "testkit-record|2\nN|C|[engine:s]|s\nN|C|[engine:s]/[engine:e]|inner\nN|T|[engine:s]/[engine:e]/[t:1]|one\n"
             + "N|C|[engine:e]|e\nN|T|[engine:e]/[t:1]|one\nN|T|[engine:e]/[t:10]|ten\nN|C|[engine:\\p]|f\nN|C|[engine:\\p]/[engine:\\p]|f in f\n"
             + "E|1|0|0|start\nE|1|1|0|start\nE|1|2|0|start\nE|1|3|0|start\nE|1|4|0|start\nE|1|5|0|skip|off\nE|1|6|0|start\nE|1|7|0|start\n";
-    /** Tests that take 20 and 1, a skip, and a container that never finishes. */
+    /** Tests that take 20 and 1, the latter also skipped, one that is only skipped, and a container that never finishes. */
     private static final String TIMES = "testkit-record|2\nN|C|[engine:e]|e\nN|T|[engine:e]/[t:1]|one\nN|T|[engine:e]/[t:2]|two\n"
-            + "N|T|[engine:e]/[t:3]|off\nE|1|0|5|start\nE|1|1|10|start\nE|1|1|30|finish|ok\nE|2|2|20|start\nE|1|3|40|skip|x\nE|2|2|21|finish|ok\n";
+            + "N|T|[engine:e]/[t:3]|off\nE|1|0|5|start\nE|1|1|10|start\nE|1|1|30|finish|ok\nE|2|2|20|start\nE|1|3|40|skip|x\nE|2|2|21|finish|ok\n"
+            + "E|1|2|41|skip|again\n";
     private static final String STATISTICS = "skipped 0";
     private static final String PACKED = "testkit-x86_64-linux";
 
