@@ -15,7 +15,8 @@ use Rattle.testkit_questions.specs.Asked.{IsAnswered, IsRefusal}
 use Rattle.testkit_questions.specs.Laws.{Answered, Refused, IsSettled, AnswerIsUnique}
 use Rattle.testkit_questions.proofs.OneRequest.{one_request}
 use Rattle.testkit_questions.proofs.UniqueReading.{IsOfWords}
-use Rattle.testkit_questions.proofs.OneResponse.{AreUnique, one_response}
+use Rattle.tk_explanations.specs.Laws.{ExplanationsAreUnique}
+use Rattle.testkit_questions.proofs.OneResponse.{one_response}
 
 -- what a settled refusal is of: the words, or the input after good words
 data Cause (words : List (List ℕ)) (input : List ℕ) (fault : AskFault) : Type 0 where
@@ -72,7 +73,7 @@ one_refusal words input f g (of_input i p at asks s h) (of_input j q is too t k)
 answered_same : (y z : Bool) (o p : List ℕ) → y ≡ z → o ≡ p → Answered y o ≡ Answered z p
 answered_same y z o p e f = rw (e, f) refl
 
-pub answer_is_unique : AreUnique → AnswerIsUnique
+pub answer_is_unique : ExplanationsAreUnique → AnswerIsUnique
 answer_is_unique unique words input (Answered y o) (Answered z u) s t a b =
     let r = (recorded.text_is_unique a.2.1.1.0 b.2.1.1.0 a.2.0 b.2.0 a.2.1.1.1 b.2.1.1.1 (sym a.2.1.1.2 ∙ b.2.1.1.2)).1 in
     let same = one_response unique a.0 b.0 b.2.0 y z o u (one_request words (Ok a.0) (Ok b.0) (good a.0) (good b.0) a.1 b.1) (subst (λ (x : Recorded). IsResponseTo a.0 x y o) r a.2.2) b.2.2 in

@@ -1,16 +1,10 @@
 -- What words ask for has one response about a record.
 use Rattle.std.proofs.Common.{◌≡◌, ℕ, Bool, true, false, List, subst}
-use Rattle.tk_record.specs.declared.statistics.Expected.{Expected}
 use Rattle.tk_record.specs.Recorded.{Recorded}
 use Rattle.tk_record.specs.Selections.{Selected, all_of}
 use Rattle.tk_query_conditions.specs.declared.conditions.Condition.{Condition}
-use Rattle.tk_explanations.specs.Collisions.{ExplainsExclusive}
-use Rattle.tk_explanations.specs.Laws.{IsUnique}
-use Rattle.tk_explanations.specs.Lifecycles.{ExplainsLifecycle}
-use Rattle.tk_explanations.specs.LockCollisions.{ExplainsLocks}
-use Rattle.tk_explanations.specs.Lists.{ExplainsExecutions, ExplainsList}
-use Rattle.tk_explanations.specs.Matches.{ExplainsExactly, ExplainsInOrder, ExplainsLoosely}
-use Rattle.tk_explanations.specs.Statistics.{ExplainsStatistics}
+use Rattle.tk_explanations.specs.Laws.{ExplanationsAreUnique}
+use Rattle.tk_explanations.specs.Lists.{ExplainsList}
 use Rattle.testkit_questions.specs.declared.questions.Mode.{Mode}
 use Rattle.testkit_questions.specs.declared.questions.Mode.TheVariants.{Exactly, Loosely, InOrder}
 use Rattle.testkit_questions.specs.declared.questions.Question.{Question}
@@ -24,19 +18,7 @@ use Rattle.testkit_questions.proofs.UniqueReading.{listing, matching}
 use Rattle.testkit_questions.proofs.UniqueReply.{one_answer, one_reply, same_events}
 use Rattle.testkit_questions.proofs.OneRequest.{AreSameRequests}
 
--- each explanation is determined by what it is of
-pub record AreUnique : Type 0 where
-  pub exactly : (asked : Selected) (cs : List Condition) → IsUnique (ExplainsExactly asked cs)
-  pub loosely : (asked : Selected) (cs : List Condition) → IsUnique (ExplainsLoosely asked cs)
-  pub in_order : (asked : Selected) (cs : List Condition) → IsUnique (ExplainsInOrder asked cs)
-  pub listed : (asked : Selected) → IsUnique (ExplainsList asked)
-  pub executions : (asked : Selected) → IsUnique (ExplainsExecutions asked)
-  pub exclusive : (asked : Selected) (w r : Condition) → IsUnique (ExplainsExclusive asked w r)
-  pub lifecycle : (r : Recorded) → IsUnique (ExplainsLifecycle r)
-  pub locks : (asked : Selected) → IsUnique (ExplainsLocks asked)
-  pub statistics : (asked : Selected) (e : Expected) → IsUnique (ExplainsStatistics asked e)
-
-module _ (unique : AreUnique) where
+module _ (unique : ExplanationsAreUnique) where
   one_match : (m : Mode) (asked : Selected) (cs ds : List Condition) (y z : Bool) (o u : List ℕ)
       → AreAlike cs ds → ExplainsMatch m asked cs y o → ExplainsMatch m asked ds z u
       → (y ≡ z) × (o ≡ u)

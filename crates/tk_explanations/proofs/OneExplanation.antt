@@ -6,7 +6,6 @@ use Rattle.std.proofs.lemmas.Bool.{true≢false}
 use Rattle.std.proofs.lemmas.Option.{same_Some}
 use Rattle.tk_record.specs.Recorded.{Recorded}
 use Rattle.tk_record.specs.Selections.{Selected}
-use Rattle.tk_record.specs.declared.statistics.Expected.{Expected}
 use Rattle.tk_query_lifecycle.specs.LifecycleTexts.{lifecycle_text}
 use Rattle.tk_query_lifecycle.specs.declared.lifecycle_rules.Lifecycle.{Lifecycle}
 use Rattle.tk_query_lifecycle.proofs.LifecycleIsUnique.{between, lifecycle_is_unique}
@@ -32,15 +31,14 @@ use Rattle.tk_query.proofs.AnswerIsUnique.{as_many}
 use Rattle.tk_query.proofs.EndLemmas.{one_end}
 use Rattle.tk_query_nearest.specs.Nearness.{IsNearest}
 use Rattle.tk_query_nearest.proofs.NearestIsUnique.{one_nearest}
-use Rattle.tk_explanations.specs.Collisions.{AreCollisionRows, ExplainsExclusive, IsExclusiveExplanation, StartsAt, overlap_rows, writers_said}
-use Rattle.tk_explanations.specs.LockCollisions.{AreLockRows, ExplainsLocks, IsLockExplanation}
-use Rattle.tk_explanations.specs.Laws.{IsUnique}
-use Rattle.tk_explanations.specs.Lifecycles.{ExplainsLifecycle, IsLifecycleExplanation, is_kept, lifecycle_rows}
-use Rattle.tk_explanations.specs.Lists.{ExplainsExecutions, ExplainsList, listed_execution}
+use Rattle.tk_explanations.specs.Collisions.{AreCollisionRows, IsExclusiveExplanation, StartsAt, overlap_rows, writers_said}
+use Rattle.tk_explanations.specs.LockCollisions.{AreLockRows, IsLockExplanation}
+use Rattle.tk_explanations.specs.Laws.{ExplanationsAreUnique, IsUnique}
+use Rattle.tk_explanations.specs.Lifecycles.{IsLifecycleExplanation, is_kept, lifecycle_rows}
+use Rattle.tk_explanations.specs.Lists.{listed_execution}
 use Rattle.tk_explanations.specs.MatchRows.{condition_row, found_rows, near_rows}
-use Rattle.tk_explanations.specs.Matches.{AreFirstFits, AreInOrderRows, AreLooseRows, AreStuckRows, ExplainsExactly, ExplainsInOrder, ExplainsLoosely, IsExactExplanation, IsInOrderExplanation, IsLastFit, IsLooseExplanation, after, early_rows, exact_rows, last_of}
+use Rattle.tk_explanations.specs.Matches.{AreFirstFits, AreInOrderRows, AreLooseRows, AreStuckRows, IsExactExplanation, IsInOrderExplanation, IsLastFit, IsLooseExplanation, after, early_rows, exact_rows, last_of}
 use Rattle.tk_explanations.specs.Rows.{AsText, rows_text}
-use Rattle.tk_explanations.specs.Statistics.{ExplainsStatistics}
 use Rattle.tk_explanations.specs.declared.rows.Row.{Row}
 use Rattle.tk_explanations.specs.declared.rows.Span.{Span}
 use Rattle.tk_explanations.specs.declared.rows.Row.TheVariants.{Line, Overlap, OverlapOver}
@@ -60,9 +58,6 @@ exact_rows_one : (asked : Selected) (cs : List Condition) → AreOne (IsExactExp
 exact_rows_one asked cs a b xs ys x y =
     let same = one_exact asked cs x.0 y.0 x.1 y.1 in
     (x.2 ∙ ap (λ (e : Exact). exact_yes e) same ∙ sym y.2, x.3 ∙ ap (λ (e : Exact). Line (exact_text e) ∷ exact_rows asked cs e) same ∙ sym y.3)
-
-pub one_exactly : (asked : Selected) (cs : List Condition) → IsUnique (ExplainsExactly asked cs)
-one_exactly asked cs = one_text (IsExactExplanation asked cs) asked.recorded (exact_rows_one asked cs)
 
 -- ---- loosely
 
@@ -97,9 +92,6 @@ loose_rows_one asked cs a b xs ys x y =
     let same = one_loose asked cs x.0 y.0 x.1 y.1 in
     let below = loose_below asked cs y.0 x.3 y.3 (subst (λ (e : Loose). AreLooseRows asked cs e x.3) same x.4) y.4 in
     (x.2 ∙ ap (λ (e : Loose). loose_yes e) same ∙ sym y.2, x.5 ∙ ap₂ (λ (e : Loose) (l : List Row). Line (loose_text e) ∷ l) same below ∙ sym y.5)
-
-pub one_loosely : (asked : Selected) (cs : List Condition) → IsUnique (ExplainsLoosely asked cs)
-one_loosely asked cs = one_text (IsLooseExplanation asked cs) asked.recorded (loose_rows_one asked cs)
 
 -- ---- in order
 
@@ -140,18 +132,6 @@ in_order_rows_one asked cs a b xs ys x y =
     let same = in_order_both asked cs x.0 y.0 x.3 y.3 (one_in_order asked cs x.0 y.0 x.1 y.1) x.4 y.4 in
     (x.2 ∙ same.0 ∙ sym y.2, x.5 ∙ same.1 ∙ sym y.5)
 
-pub one_in_order_too : (asked : Selected) (cs : List Condition) → IsUnique (ExplainsInOrder asked cs)
-one_in_order_too asked cs = one_text (IsInOrderExplanation asked cs) asked.recorded (in_order_rows_one asked cs)
-
--- ---- lists
-
-pub one_listing : (asked : Selected) → IsUnique (ExplainsList asked)
-one_listing asked a b s t x y = (x.0 ∙ sym y.0, x.1 ∙ sym y.1)
-
-pub one_execution_list : (asked : Selected) → IsUnique (ExplainsExecutions asked)
-one_execution_list asked a b s t x y =
-    (x.2 ∙ sym y.2, x.3 ∙ ap (flat_map (listed_execution asked.recorded)) (one_list asked x.0 y.0 x.1 y.1) ∙ sym y.3)
-
 -- ---- collisions
 
 one_start : (asked : Selected) (p : ℕ) (x y : Span) → StartsAt asked p x → StartsAt asked p y → x ≡ y
@@ -181,9 +161,6 @@ module _ (asked : Selected) (writers readers : Condition) where
         x.5 ∙ ap₂ (λ (e : Exclusive) (l : List Row). Line (exclusive_text e) ∷ l) same below ∙ sym y.5,
       )
 
-pub one_exclusion : (asked : Selected) (writers readers : Condition) → IsUnique (ExplainsExclusive asked writers readers)
-one_exclusion asked writers readers = one_text (IsExclusiveExplanation asked writers readers) asked.recorded (exclusive_rows_one asked writers readers)
-
 -- ---- locks
 
 module _ (asked : Selected) where
@@ -207,9 +184,6 @@ module _ (asked : Selected) where
         x.5 ∙ ap₂ (λ (e : LockAnswer) (l : List Row). Line (lock_answer_text e) ∷ l) same below ∙ sym y.5,
       )
 
-pub one_locks : (asked : Selected) → IsUnique (ExplainsLocks asked)
-one_locks asked = one_text (IsLockExplanation asked) asked.recorded (lock_rows_one asked)
-
 -- ---- lifecycles
 
 lifecycle_rows_one : (r : Recorded) → AreOne (IsLifecycleExplanation r)
@@ -217,10 +191,15 @@ lifecycle_rows_one r a b xs ys x y =
     let same = lifecycle_is_unique r x.0 y.0 x.1 y.1 in
     (x.2 ∙ ap is_kept same ∙ sym y.2, x.3 ∙ ap (λ (l : Lifecycle). Line (lifecycle_text l) ∷ lifecycle_rows r l) same ∙ sym y.3)
 
-pub one_lifecycle : (r : Recorded) → IsUnique (ExplainsLifecycle r)
-one_lifecycle r = one_text (IsLifecycleExplanation r) r (lifecycle_rows_one r)
-
--- ---- statistics
-
-pub one_statistics : (asked : Selected) (expected : Expected) → IsUnique (ExplainsStatistics asked expected)
-one_statistics asked expected a b s t x y = (x.0 ∙ sym y.0, x.1 ∙ sym y.1)
+pub explanations_are_unique : ExplanationsAreUnique
+explanations_are_unique = record {
+  exactly = λ asked cs. one_text (IsExactExplanation asked cs) asked.recorded (exact_rows_one asked cs);
+  loosely = λ asked cs. one_text (IsLooseExplanation asked cs) asked.recorded (loose_rows_one asked cs);
+  in_order = λ asked cs. one_text (IsInOrderExplanation asked cs) asked.recorded (in_order_rows_one asked cs);
+  listed = λ asked a b s t x y. (x.0 ∙ sym y.0, x.1 ∙ sym y.1);
+  executions = λ asked a b s t x y. (x.2 ∙ sym y.2, x.3 ∙ ap (flat_map (listed_execution asked.recorded)) (one_list asked x.0 y.0 x.1 y.1) ∙ sym y.3);
+  exclusive = λ asked w r. one_text (IsExclusiveExplanation asked w r) asked.recorded (exclusive_rows_one asked w r);
+  lifecycle = λ r. one_text (IsLifecycleExplanation r) r (lifecycle_rows_one r);
+  locks = λ asked. one_text (IsLockExplanation asked) asked.recorded (lock_rows_one asked);
+  statistics = λ asked e a b s t x y. (x.0 ∙ sym y.0, x.1 ∙ sym y.1);
+}

@@ -11,17 +11,10 @@ use Rattle.tk_events.specs.declared.events.Entry.{Entry}
 use Rattle.tk_explanations.specs.Rows.{row_line, row_text, rows_text}
 use Rattle.tk_explanations.specs.declared.rows.Row.{Row}
 
-pub adds_three : (a b c d : Outgoing) (xs ys zs : List ℕ) → Adds a b xs → Adds b c ys → Adds c d zs → Adds a d (xs ++ ys ++ zs)
-adds_three a b c d xs ys zs p q r = adds_both a c d (xs ++ ys) zs (adds_both a b c xs ys p q) r
-
-pub adds_four : (a b c d e : Outgoing) (ws xs ys zs : List ℕ) → Adds a b ws → Adds b c xs → Adds c d ys → Adds d e zs → Adds a e (ws ++ xs ++ ys ++ zs)
-adds_four a b c d e ws xs ys zs p q r s = adds_both a d e (ws ++ xs ++ ys) zs (adds_three a b c d ws xs ys p q r) s
-
-pub adds_five : (a b c d e f : Outgoing) (vs ws xs ys zs : List ℕ) → Adds a b vs → Adds b c ws → Adds c d xs → Adds d e ys → Adds e f zs → Adds a f (vs ++ ws ++ xs ++ ys ++ zs)
-adds_five a b c d e f vs ws xs ys zs p q r s t = adds_both a e f (vs ++ ws ++ xs ++ ys) zs (adds_four a b c d e vs ws xs ys p q r s) t
-
-pub adds_six : (a b c d e f g : Outgoing) (us vs ws xs ys zs : List ℕ) → Adds a b us → Adds b c vs → Adds c d ws → Adds d e xs → Adds e f ys → Adds f g zs → Adds a g (us ++ vs ++ ws ++ xs ++ ys ++ zs)
-adds_six a b c d e f g us vs ws xs ys zs p q r s t u = adds_both a f g (us ++ vs ++ ws ++ xs ++ ys) zs (adds_five a b c d e f us vs ws xs ys p q r s t) u
+infixl 5 ◌▹◌
+-- bytes, and further ones after them
+pub ◌▹◌ : {a b c : Outgoing} {xs ys : List ℕ} → Adds a b xs → Adds b c ys → Adds a c (xs ++ ys)
+p ▹ q = adds_both _ _ _ _ _ p q
 
 -- one row more
 pub row_added : (a b c d : Outgoing) (r : Recorded) (rows : List Row) (i : ℕ) (row : Row) → i < length rows → row ≡ get_or rows i row → Adds a b (rows_text r (take i rows)) → Adds b c (row_text r row) → Adds c d (10 ∷ []) → Adds a d (rows_text r (take (i + 1) rows))

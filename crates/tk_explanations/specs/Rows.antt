@@ -59,16 +59,18 @@ writers_text First = codes ", the first as a writer"
 writers_text Second = codes ", the second as a writer"
 writers_text Both = codes ", both as writers"
 
+-- that two executions overlap
+abbrev pub overlap_text : Recorded → Span → Span → List ℕ
+overlap_text r x y = span_text r x ++ codes " and " ++ span_text r y ++ codes " overlap"
+
 abbrev pub row_text : Recorded → Row → List ℕ
 row_text r (Line text) = text
 row_text r (Condition k text) = decimal k ++ blank ∷ text
 row_text r (Event position note) = event_row r position (slice_get r.entries position) note
 row_text r NoneLeft = codes "    no event is left"
 row_text r (Counts n m) = decimal n ++ codes " conditions, " ++ decimal m ++ codes " events"
-row_text r (Overlap x y said) =
-    span_text r x ++ codes " and " ++ span_text r y ++ codes " overlap" ++ writers_text said
-row_text r (OverlapOver x y name) =
-    span_text r x ++ codes " and " ++ span_text r y ++ codes " overlap, over " ++ field_text name
+row_text r (Overlap x y said) = overlap_text r x y ++ writers_text said
+row_text r (OverlapOver x y name) = overlap_text r x y ++ codes ", over " ++ field_text name
 row_text r (Executions n) = codes "    " ++ decimal n ++ codes " executions"
 row_text r (More n) = codes "    and " ++ decimal n ++ codes " more"
 row_text r (Sentence sentence) = sentence_text r sentence

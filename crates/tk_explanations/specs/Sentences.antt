@@ -55,14 +55,6 @@ cause_text r (ChildRan x) =
     ++ decimal x.position ++ codes ", still ran"
 cause_text r (Rule rule) = codes "that breaks the rule " ++ rule_text rule
 
--- what is said of a key that started and never finished
-abbrev pub unfinished_text : Recorded → ℕ → Option EventAt → List ℕ
-unfinished_text r key None =
-    descriptor_text (desc r key) ++ codes " started and never finished"
-unfinished_text r key (Some x) =
-    descriptor_text (desc r key) ++ codes " started at " ++ decimal x.position
-    ++ codes " and never finished"
-
 -- what is said of the parent of a key that never ran; of a root nothing
 abbrev pub success_text : Recorded → Option EventAt → List ℕ
 success_text r None = []
@@ -70,9 +62,14 @@ success_text r (Some x) =
     codes ", but its parent " ++ descriptor_text (desc r x.key) ++ codes " succeeded at "
     ++ decimal x.position
 
+-- what is said of the start of an execution that never finished
+abbrev pub start_text : Option EventAt → List ℕ
+start_text None = codes " started and never finished"
+start_text (Some x) = codes " started at " ++ decimal x.position ++ codes " and never finished"
+
 abbrev pub sentence_text : Recorded → Sentence → List ℕ
 sentence_text r (Breaks x cause) = event_phrase r x ++ codes ", but " ++ cause_text r cause
-sentence_text r (NeverFinished key start) = unfinished_text r key start
+sentence_text r (NeverFinished key start) = descriptor_text (desc r key) ++ start_text start
 sentence_text r (NeverRan key finish) =
     descriptor_text (desc r key) ++ codes " neither started nor was skipped"
     ++ success_text r finish

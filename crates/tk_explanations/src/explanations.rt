@@ -1,14 +1,12 @@
 //! Explanations as rows, written in pieces.
-ghost use Rattle.std.specs.Prelude.{◌≡◌, ◌++◌, ◌∷◌, [], Some, true, codes, slice_get, string_bytes, IfOk, IsErrOf, OnErr, OnOk};
-ghost use Rattle.std.specs.Fmt.{decimal};
-ghost use Rattle.tk_query.specs.AnswerTexts.{blank};
+ghost use Rattle.std.specs.Prelude.{◌≡◌, ◌∷◌, [], Some, true, slice_get, string_bytes, IfOk, IsErrOf, OnErr, OnOk};
 ghost use Rattle.std.specs.Io.KnownBytes.{Appends};
 ghost use Rattle.tk_streams.specs.Pieces.{AddsTo};
 ghost use Rattle.tk_streams.specs.Stream.{AppendsPrefix};
 ghost use Rattle.tk_record.specs.Record.{entry_of_view};
 ghost use Rattle.tk_explanations.specs.steps.{IsWritten};
 ghost use Rattle.tk_explanations.specs.declared.rows.Row.TheVariants.{Line};
-ghost use Rattle.tk_explanations.specs.Rows.{descriptor_of, end_text, event_row, note_text, row_line, row_text, rows_text, span_text, writers_text};
+ghost use Rattle.tk_explanations.specs.Rows.{descriptor_of, end_text, event_row, note_text, overlap_text, row_text, rows_text, span_text, writers_text};
 
 use crate::faults::ExplainFault;
 use crate::pieces::{put_descriptor_of, put_event_text, put_number};
@@ -72,34 +70,6 @@ fn put_event_row<T: Target>(
     }
 }
 
-fn put_condition<T: Target>(piece: &mut Piece, target: &mut T, number: usize, text: &str)
-    ensures { AddsTo T.contents T.broken target.old target.new piece.old piece.new
-        (decimal number ++ blank ∷ text.now) }
-{
-    put_number(piece, target, number as u64);
-    piece.put_byte(target, b' ');
-    piece.put(target, text.as_bytes());
-}
-
-fn put_counts<T: Target>(piece: &mut Piece, target: &mut T, conditions: usize, events: usize)
-    ensures { AddsTo T.contents T.broken target.old target.new piece.old piece.new
-        (decimal conditions ++ codes " conditions, " ++ decimal events ++ codes " events") }
-{
-    put_number(piece, target, conditions as u64);
-    piece.put(target, b" conditions, ");
-    put_number(piece, target, events as u64);
-    piece.put(target, b" events");
-}
-
-fn put_more<T: Target>(piece: &mut Piece, target: &mut T, count: usize)
-    ensures { AddsTo T.contents T.broken target.old target.new piece.old piece.new
-        (codes "    and " ++ decimal count ++ codes " more") }
-{
-    piece.put(target, b"    and ");
-    put_number(piece, target, count as u64);
-    piece.put(target, b" more");
-}
-
 // Adds the descriptor of the event at a position, where the record has one there.
 fn put_descriptor_at<T: Target>(piece: &mut Piece, target: &mut T, record: &Record, position: usize)
     ensures { AddsTo T.contents T.broken target.old target.new piece.old piece.new
@@ -147,49 +117,21 @@ fn writers_words(said: Writers) -> &'static str
     }
 }
 
+// Adds that two executions overlap.
 fn put_overlap<T: Target>(
     piece: &mut Piece,
     target: &mut T,
     record: &Record,
     first: Span,
     second: Span,
-    said: Writers,
 )
     ensures { AddsTo T.contents T.broken target.old target.new piece.old piece.new
-        (row_text «record».now (Row.Overlap first second said)) }
+        (overlap_text «record».now first second) }
 {
     put_span(piece, target, record, first);
     piece.put(target, b" and ");
     put_span(piece, target, record, second);
     piece.put(target, b" overlap");
-    piece.put(target, writers_words(said).as_bytes());
-}
-
-fn put_overlap_over<T: Target>(
-    piece: &mut Piece,
-    target: &mut T,
-    record: &Record,
-    first: Span,
-    second: Span,
-    name: &Text,
-)
-    ensures { AddsTo T.contents T.broken target.old target.new piece.old piece.new
-        (row_text «record».now (Row.OverlapOver first second name.now)) }
-{
-    put_span(piece, target, record, first);
-    piece.put(target, b" and ");
-    put_span(piece, target, record, second);
-    piece.put(target, b" overlap, over ");
-    put_text(piece, target, name.as_str());
-}
-
-fn put_executions<T: Target>(piece: &mut Piece, target: &mut T, number: usize)
-    ensures { AddsTo T.contents T.broken target.old target.new piece.old piece.new
-        (codes "    " ++ decimal number ++ codes " executions") }
-{
-    piece.put(target, b"    ");
-    put_number(piece, target, number as u64);
-    piece.put(target, b" executions");
 }
 
 fn put_row<T: Target>(piece: &mut Piece, target: &mut T, record: &Record, row: &Row)
@@ -198,18 +140,38 @@ fn put_row<T: Target>(piece: &mut Piece, target: &mut T, record: &Record, row: &
 {
     match row {
         Row::Line(text) => piece.put(target, text.as_str().as_bytes()),
-        Row::Condition(number, text) => put_condition(piece, target, *number, text.as_str()),
+        Row::Condition(number, text) => {
+            put_number(piece, target, *number as u64);
+            piece.put_byte(target, b' ');
+            piece.put(target, text.as_str().as_bytes());
+        }
         Row::Event(position, note) => put_event_row(piece, target, record, *position, note),
         Row::NoneLeft => piece.put(target, b"    no event is left"),
-        Row::Counts(conditions, events) => put_counts(piece, target, *conditions, *events),
+        Row::Counts(conditions, events) => {
+            put_number(piece, target, *conditions as u64);
+            piece.put(target, b" conditions, ");
+            put_number(piece, target, *events as u64);
+            piece.put(target, b" events");
+        }
         Row::Overlap(first, second, said) => {
-            put_overlap(piece, target, record, *first, *second, *said)
+            put_overlap(piece, target, record, *first, *second);
+            piece.put(target, writers_words(*said).as_bytes());
         }
         Row::OverlapOver(first, second, name) => {
-            put_overlap_over(piece, target, record, *first, *second, name)
+            put_overlap(piece, target, record, *first, *second);
+            piece.put(target, b", over ");
+            put_text(piece, target, name.as_str());
         }
-        Row::Executions(number) => put_executions(piece, target, *number),
-        Row::More(count) => put_more(piece, target, *count),
+        Row::Executions(number) => {
+            piece.put(target, b"    ");
+            put_number(piece, target, *number as u64);
+            piece.put(target, b" executions");
+        }
+        Row::More(count) => {
+            piece.put(target, b"    and ");
+            put_number(piece, target, *count as u64);
+            piece.put(target, b" more");
+        }
         Row::Sentence(sentence) => put_sentence(piece, target, record, sentence),
     }
 }

@@ -1,14 +1,6 @@
-use Rattle.std.proofs.Common.{◌∙◌}
-use Rattle.std.specs.Prelude.{codes}
-use Rattle.tk_streams.proofs.PieceLemmas.{adds_as}
-use Rattle.tk_explanations.specs.Rows.{span_text, writers_text}
-use Rattle.tk_explanations.proofs.PieceRows.{adds_five}
+use Rattle.tk_explanations.proofs.PieceRows.{◌▹◌}
 use Rattle.tk_explanations.proofs.explanations.put_overlap.Goals as goal
 
 pub returns : goal.returns
 returns g c =
-    let r = c.args.«record».now in
-    adds_five _ _ _ _ _ _ (span_text r c.args.first) (codes " and ") (span_text r c.args.second)
-    (codes " overlap") (writers_text c.args.said)
-    c.put_span.ensures c.put.ensures c.put_span-2.ensures c.put-2.ensures
-    (adds_as _ _ _ _ (c.as_bytes.ensures.value ∙ c.writers_words.ensures) c.put-3.ensures)
+    c.put_span.ensures ▹ c.put.ensures ▹ c.put_span-2.ensures ▹ c.put-2.ensures

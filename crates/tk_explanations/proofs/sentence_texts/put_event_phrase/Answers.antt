@@ -1,11 +1,5 @@
-use Rattle.std.specs.Prelude.{codes}
-use Rattle.tk_record.specs.Entries.{desc}
-use Rattle.tk_explanations.specs.Rows.{descriptor_text}
-use Rattle.tk_explanations.specs.Sentences.{phrase_at}
-use Rattle.tk_explanations.proofs.PieceRows.{adds_three}
+use Rattle.tk_explanations.proofs.PieceRows.{◌▹◌}
 use Rattle.tk_explanations.proofs.sentence_texts.put_event_phrase.Goals as goal
 
 pub returns : goal.returns
-returns g c =
-    let x = c.args.event in
-    adds_three _ _ _ _ (descriptor_text (desc c.args.«record».now x.key)) (codes " ") (phrase_at x) c.put_descriptor_of.ensures c.put.ensures c.put_phrase_at.ensures
+returns g c = c.put_descriptor_of.ensures ▹ c.put.ensures ▹ c.put_phrase_at.ensures

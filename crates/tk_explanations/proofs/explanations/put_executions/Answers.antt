@@ -1,9 +1,0 @@
-use Rattle.std.specs.Fmt.{decimal}
-use Rattle.std.specs.Prelude.{codes}
-use Rattle.tk_explanations.proofs.PieceRows.{adds_three}
-use Rattle.tk_explanations.proofs.explanations.put_executions.Goals as goal
-
-pub returns : goal.returns
-returns g c =
-    adds_three _ _ _ _ (codes "    ") (decimal c.args.number) (codes " executions")
-    c.put.ensures c.put_number.ensures c.put-2.ensures
