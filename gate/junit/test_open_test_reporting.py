@@ -103,7 +103,7 @@ class OfReports(unittest.TestCase):
 
     @parameterized(ROWS)
     def test_reports(self, report, status, output, line):
-        ran = convert(report, seconds=20)
+        ran = convert(report, seconds=60)
         self.assertEqual((ran.status, ran.error.count(b"\n")), (status, status > 0), ran.error)
         self.assertTrue(ran.output.decode() == output and ran.error.decode().startswith(line), ran)
 
